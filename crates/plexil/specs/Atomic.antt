@@ -1,0 +1,115 @@
+-- "Node rules", 004's atomic relation: the one move that a node makes. "All reads are of the state before the step."
+use Prim.Native.Nat.{ℕ, zero, suc}
+use mathlib.Core.Bool.{Bool, true, false, not}
+use mathlib.Core.List.{List, [], _∷_}
+use lib.Dec.{eqb}
+use Rattle.plexil.specs.declared.Worked.{Worked}
+use Rattle.plexil.specs.declared.Worked.the-variants.{Bool as Flag}
+use Rattle.plexil.specs.declared.State.{State}
+use Rattle.plexil.specs.declared.Status.{Status}
+use Rattle.plexil.specs.declared.Status.the-variants.{Inactive, Waiting, Executing, Finishing, Failing, IterationEnded, Finished}
+use Rattle.plexil.specs.declared.Condition.{Condition}
+use Rattle.plexil.specs.declared.Condition.the-variants.{Skip, Start, Pre, Inv, End, Post, Repeat}
+use Rattle.plexil.specs.declared.Move.{Move}
+use Rattle.plexil.specs.declared.Move.the-variants.{Stay, Go}
+use Rattle.plexil.specs.declared.Effect.the-variants.{Kept, Cleared, Skipped as Skips, Failed, Judged}
+use Rattle.plexil.specs.Lists.{if_then_else_, every, some, allBelow}
+use Rattle.plexil.specs.Values.{isTrue, isFalse}
+use Rattle.plexil.specs.Image.{Image, default, nodeCount, parent, conditionField}
+use Rattle.plexil.specs.Places.{same, statusAt, markAt, ByPre, ByInvariant, ByParent}
+use Rattle.plexil.specs.Expressions.{valueOf}
+use Rattle.plexil.specs.Records.{isList, isCommand, isAssignment}
+
+-- "parent Inactive or Waiting"
+unfoldable pub isOff : Status → Bool
+isOff a = some (same a Inactive ∷ same a Waiting ∷ [])
+
+-- "parent Finishing or Failing"
+unfoldable pub isClosing : Status → Bool
+isClosing a = some (same a Finishing ∷ same a Failing ∷ [])
+
+-- "Waiting or Finished"
+unfoldable pub isResting : Status → Bool
+isResting a = some (same a Waiting ∷ same a Finished ∷ [])
+
+unfoldable pub isFinished : Status → Bool
+isFinished a = same a Finished
+
+-- all children of node i pass
+unfoldable pub children : Image → State → ℕ → (Status → Bool) → Bool
+children p s i f = allBelow (nodeCount p) (λ j. some (not (eqb (parent p j) i) ∷ f (statusAt s j) ∷ []))
+
+-- "Node 0 reads its parent as Executing"
+unfoldable pub parentStatus : Image → State → ℕ → Status
+parentStatus p s zero = Executing
+parentStatus p s (suc i) = statusAt s (parent p (suc i))
+
+-- "Defaults: Skip and Repeat False; Start, Pre, Inv, Post True; End True, but for a list all children Finished"
+unfoldable pub defaultOf : Image → State → ℕ → Condition → Bool
+defaultOf p s i Skip = false
+defaultOf p s i Start = true
+defaultOf p s i Pre = true
+defaultOf p s i Inv = true
+defaultOf p s i End = if isList p i then children p s i isFinished else true
+defaultOf p s i Post = true
+defaultOf p s i Repeat = false
+
+unfoldable pub condition : Image → State → ℕ → Condition → Worked
+condition p s i c = if eqb (conditionField p i c) default then Flag (defaultOf p s i c) else valueOf p s (conditionField p i c)
+
+unfoldable pub holds : Image → State → ℕ → Condition → Bool
+holds p s i c = isTrue (condition p s i c)
+
+unfoldable pub fails : Image → State → ℕ → Condition → Bool
+fails p s i c = isFalse (condition p s i c)
+
+-- "Skip True, then Finished, Skipped. Else Start True: Pre True, then Executing; otherwise IterationEnded, Failure, Pre"
+unfoldable pub fromWaiting : Image → State → ℕ → Move
+fromWaiting p s i =
+    if holds p s i Skip then Go Finished Skips else if holds p s i Start then (if holds p s i Pre then Go Executing Kept else Go IterationEnded (Failed ByPre)) else Stay
+
+-- "A list or command goes to Failing; an assignment goes to IterationEnded without writing"
+unfoldable pub failsBy : Image → ℕ → ℕ → Move
+failsBy p i f = if isAssignment p i then Go IterationEnded (Failed f) else Go Failing (Failed f)
+
+-- "parent Failing gives failure Parent; else Inv False gives Invariant; both with outcome Failure"; u is the parent's status
+unfoldable pub failureOr : Status → Image → State → ℕ → Move → Move
+failureOr u p s i other =
+    if same u Failing then failsBy p i ByParent else if fails p s i Inv then failsBy p i ByInvariant else other
+
+-- "a list goes to Finishing; a returned command goes to IterationEnded; an assignment writes and goes to IterationEnded"
+unfoldable pub atEnd : Image → State → ℕ → Move
+atEnd p s i =
+    if isList p i then Go Finishing Kept else if isCommand p i then (if eqb (markAt s i) 0 then Stay else Go IterationEnded Judged) else Go IterationEnded Judged
+
+-- "list with all children Waiting or Finished, or command returned"
+unfoldable pub settled : Image → State → ℕ → Bool
+settled p s i = if isList p i then children p s i isResting else every (isCommand p i ∷ not (eqb (markAt s i) 0) ∷ [])
+
+-- "parent Finishing or Failing: Finished. Parent Executing: Repeat True gives Waiting, outcome and failure cleared; else Finished"
+unfoldable pub fromEnded : Status → Image → State → ℕ → Move
+fromEnded u p s i =
+    if isClosing u then Go Finished Kept else if same u Executing then (if holds p s i Repeat then Go Waiting Cleared else Go Finished Kept) else Stay
+
+-- the rules of each status, u being the parent's
+unfoldable pub byStatus : Status → Status → Image → State → ℕ → Move
+byStatus Inactive u p s i = if same u Executing then Go Waiting Kept else Stay
+byStatus Waiting u p s i = if same u Executing then fromWaiting p s i else Stay
+byStatus Executing u p s i = failureOr u p s i (if holds p s i End then atEnd p s i else Stay)
+byStatus Finishing u p s i = failureOr u p s i (if children p s i isResting then Go IterationEnded Judged else Stay)
+byStatus Failing u p s i = if settled p s i then Go IterationEnded Kept else Stay
+byStatus IterationEnded u p s i = fromEnded u p s i
+byStatus Finished u p s i = Stay
+
+-- "Any status but Inactive, parent Inactive or Waiting: Inactive, outcome and failure cleared"
+unfoldable pub moveBy : Status → Status → Image → State → ℕ → Move
+moveBy c u p s i = if every (not (same c Inactive) ∷ isOff u ∷ []) then Go Inactive Cleared else byStatus c u p s i
+
+-- "First rule that applies"
+unfoldable pub moveOf : Image → State → ℕ → Move
+moveOf p s i = moveBy (statusAt s i) (parentStatus p s i) p s i
+
+-- opens every definition of this file
+unfoldable pub opened : Unit {0}
+unfolding isOff isClosing isResting isFinished children parentStatus defaultOf condition holds fails fromWaiting failsBy failureOr atEnd settled fromEnded byStatus moveBy moveOf
+opened = tt

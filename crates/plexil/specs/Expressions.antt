@@ -1,0 +1,76 @@
+-- "Operators": what an expression entry answers in a state, the remaining depth falling.
+use Prim.Native.Nat.{ℕ, zero, suc}
+use mathlib.Core.Bool.{Bool}
+use mathlib.Core.List.{List, [], _∷_}
+use lib.ListN.{getD}
+use lib.Dec.{eqb}
+use Rattle.plexil.specs.declared.Worked.{Worked}
+use Rattle.plexil.specs.declared.Worked.the-variants.{Clash, Unknown, Bool as Flag}
+use Rattle.plexil.specs.declared.State.{State}
+use Rattle.plexil.specs.Lists.{if_then_else_}
+use Rattle.plexil.specs.Values.{known, notOf, andOf, orOf, pairOf, eqOf, ltOf, leOf, addOf, subOf, mulOf}
+use Rattle.plexil.specs.Image.{Image, operator, resultKind, operandA, operandB, constant}
+use Rattle.plexil.specs.Places.{outcomeAt, failureAt, varCell, lookCell, valueIn}
+
+pub data Leaf : Type 0 where
+  constantOp variableOp lookupOp statusOp outcomeOp failureOp : Leaf
+
+pub data Binary : Type 0 where
+  andOp orOp eqOp ltOp leOp addOp subOp mulOp : Binary
+
+pub data Operator : Type 0 where
+  leaf : Leaf → Operator
+  notOp : Operator
+  binary : Binary → Operator
+  noOperator : Operator
+
+-- "0 constant; 1 variable a; 2 lookup a; 3 status of node a is b; 4 outcome of node a is b; 5 failure of node a is b; 6 NOT a; 7 AND; 8 OR; 9 EQ; 10 LT; 11 LE; 12 ADD; 13 SUB; 14 MUL"
+unfoldable pub operatorOf : ℕ → Operator
+operatorOf n =
+    getD
+    (leaf constantOp ∷ leaf variableOp ∷ leaf lookupOp ∷ leaf statusOp ∷ leaf outcomeOp ∷ leaf failureOp ∷ notOp
+    ∷ binary andOp ∷ binary orOp ∷ binary eqOp ∷ binary ltOp ∷ binary leOp ∷ binary addOp ∷ binary subOp ∷ binary mulOp ∷ [])
+    n noOperator
+
+unfoldable pub operatorAt : Image → ℕ → Operator
+operatorAt p e = operatorOf (operator p e)
+
+-- "b = 1 known, b = 0 Unknown with constant 0"; "In 3 to 5, b is a code listed below; they are never Unknown"
+unfoldable pub leafOf : Leaf → Image → State → ℕ → Worked
+leafOf constantOp p s e = if eqb (operandB p e) 1 then known (resultKind p e) (constant p e) else Unknown
+leafOf variableOp p s e = valueIn (varCell s (operandA p e))
+leafOf lookupOp p s e = valueIn (lookCell s (operandA p e))
+leafOf statusOp p s e = Flag (eqb (getD (s .status) (operandA p e) 0) (operandB p e))
+leafOf outcomeOp p s e = Flag (eqb (outcomeAt s (operandA p e)) (operandB p e))
+leafOf failureOp p s e = Flag (eqb (failureAt s (operandA p e)) (operandB p e))
+
+unfoldable pub binaryOf : Binary → Worked → Worked → Worked
+binaryOf andOp x y = andOf x y
+binaryOf orOp x y = orOf x y
+binaryOf eqOp x y = eqOf (pairOf x y)
+binaryOf ltOp x y = ltOf (pairOf x y)
+binaryOf leOp x y = leOf (pairOf x y)
+binaryOf addOp x y = addOf (pairOf x y)
+binaryOf subOp x y = subOf (pairOf x y)
+binaryOf mulOp x y = mulOf (pairOf x y)
+
+-- `sub` answers for an operand's entry; no operator at all is a Clash
+unfoldable pub answerOf : Operator → Image → State → ℕ → (ℕ → Worked) → Worked
+answerOf (leaf o) p s e sub = leafOf o p s e
+answerOf notOp p s e sub = notOf (sub (operandA p e))
+answerOf (binary o) p s e sub = binaryOf o (sub (operandA p e)) (sub (operandB p e))
+answerOf noOperator p s e sub = Clash
+
+-- entry e with d levels left; no level left is a Clash
+unfoldable pub evalOf : Image → State → ℕ → ℕ → Worked
+evalOf p s zero e = Clash
+evalOf p s (suc d) e = answerOf (operatorAt p e) p s e (λ x. evalOf p s d x)
+
+-- "an expression tree is at most 12 deep"
+unfoldable pub valueOf : Image → State → ℕ → Worked
+valueOf p s e = evalOf p s 12 e
+
+-- opens every definition of this file
+unfoldable pub opened : Unit {0}
+unfolding operatorOf operatorAt leafOf binaryOf answerOf evalOf valueOf
+opened = tt

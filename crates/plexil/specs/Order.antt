@@ -1,0 +1,139 @@
+-- "any order is a walk over any list that names each node once": a visit, what it carries on, and the settling.
+use Prim.Native.Nat.{ℕ, suc, _+_}
+use mathlib.Core.Path.{_≡_}
+use mathlib.Core.Bool.{Bool, true, false, not}
+use mathlib.Core.List.{List, [], _∷_}
+use lib.ListN.{getD, set, replicate}
+use lib.Dec.{eqb, ltb}
+use Rattle.plexil.specs.declared.Cell.{Cell}
+use Rattle.plexil.specs.declared.State.{State}
+use Rattle.plexil.specs.declared.Place.{Place}
+use Rattle.plexil.specs.declared.Status.the-variants.{Waiting, Executing, IterationEnded}
+use Rattle.plexil.specs.Lists.{if_then_else_, every, renew}
+use Rattle.plexil.specs.Values.{cell}
+use Rattle.plexil.specs.Image.{Image, nodeCount, varCount, priority, what, owner}
+use Rattle.plexil.specs.Places.{statusOf, statusCode, same, statusAt, varCell, initial, Failure, ByInvariant, WriteLost}
+use Rattle.plexil.specs.Records.{isAssignment}
+use Rattle.plexil.specs.Micro.{writes, written, place}
+
+-- "the next places so far and, for each variable, the greatest priority met, its node and value, and whether it is tied";
+-- top is one more than that priority, and 0 where no writer was met
+pub record Carry : Type 0 where
+  pub status : List ℕ
+  pub outcome : List ℕ
+  pub failure : List ℕ
+  pub mark : List ℕ
+  pub top : List ℕ
+  pub node : List ℕ
+  pub tags : List ℕ
+  pub bits : List ℕ
+  pub tied : List ℕ
+
+-- before the first visit
+unfoldable pub carryNothing : State → Carry
+carryNothing s = record {
+  status = s .status;
+  outcome = s .outcome;
+  failure = s .failure;
+  mark = s .mark;
+  top = replicate 128 0;
+  node = replicate 128 0;
+  tags = replicate 128 0;
+  bits = replicate 128 0;
+  tied = replicate 128 0;
+}
+
+unfoldable pub putPlace : Carry → ℕ → Place → Carry
+putPlace c i r = record {
+  status = set (c .status) i (r .status);
+  outcome = set (c .outcome) i (r .outcome);
+  failure = set (c .failure) i (r .failure);
+  mark = set (c .mark) i (r .mark);
+  top = c .top;
+  node = c .node;
+  tags = c .tags;
+  bits = c .bits;
+  tied = c .tied;
+}
+
+-- a writer i of variable v with top t and value x: it leads, or is tied with the leader, or is beaten
+unfoldable pub meet : Carry → ℕ → ℕ → ℕ → Cell → Carry
+meet c v t i x =
+    if ltb (getD (c .top) v 0) t then record {
+      status = c .status;
+      outcome = c .outcome;
+      failure = c .failure;
+      mark = c .mark;
+      top = set (c .top) v t;
+      node = set (c .node) v i;
+      tags = set (c .tags) v (x .tag);
+      bits = set (c .bits) v (x .bits);
+      tied = set (c .tied) v 0;
+    }
+    else if eqb (getD (c .top) v 0) t then record {
+      status = c .status;
+      outcome = c .outcome;
+      failure = c .failure;
+      mark = c .mark;
+      top = c .top;
+      node = c .node;
+      tags = c .tags;
+      bits = c .bits;
+      tied = set (c .tied) v 1;
+    }
+    else c
+
+-- "a visit reads only the state before the step and what earlier visits carried on"
+unfoldable pub visit : Image → State → Carry → ℕ → Carry
+visit p s c i =
+    if writes p s i then meet (putPlace c i (place p s i)) (what p i) (priority p i + 1) i (written p s i) else putPlace c i (place p s i)
+
+unfoldable pub walk : Image → State → List ℕ → Carry → Carry
+walk p s [] c = c
+walk p s (i ∷ is) c = walk p s is (visit p s c i)
+
+-- "After the last visit the writes and the losers are settled from what is carried": node i wrote, and does not lead alone
+unfoldable pub wrote : Image → State → Carry → ℕ → Bool
+wrote p s c i =
+    every (isAssignment p i ∷ same (statusAt s i) Executing ∷ same (statusOf (getD (c .status) i 0)) IterationEnded ∷ ltb (getD (c .failure) i 0) ByInvariant ∷ [])
+
+unfoldable pub leads : Image → Carry → ℕ → Bool
+leads p c i = every (eqb (getD (c .node) (what p i) 0) i ∷ eqb (getD (c .tied) (what p i) 0) 0 ∷ [])
+
+unfoldable pub lost : Image → State → Carry → ℕ → Bool
+lost p s c i = every (wrote p s c i ∷ not (leads p c i) ∷ [])
+
+-- node i enters Waiting
+unfoldable pub entered : State → Carry → ℕ → Bool
+entered s c i = every (not (same (statusAt s i) Waiting) ∷ same (statusOf (getD (c .status) i 0)) Waiting ∷ [])
+
+unfoldable pub settledVar : Image → State → Carry → ℕ → Cell
+settledVar p s c v =
+    if every (ltb 0 (getD (c .top) v 0) ∷ eqb (getD (c .tied) v 0) 0 ∷ []) then cell (getD (c .tags) v 0) (getD (c .bits) v 0)
+    else if entered s c (owner p v) then initial p v else varCell s v
+
+unfoldable pub settle : Image → State → Carry → State
+settle p s c = record {
+  status = c .status;
+  outcome = renew (nodeCount p) (λ i. if lost p s c i then Failure else getD (c .outcome) i 0) (c .outcome);
+  failure = renew (nodeCount p) (λ i. if lost p s c i then WriteLost else getD (c .failure) i 0) (c .failure);
+  mark = c .mark;
+  vartags = renew (varCount p) (λ v. settledVar p s c v .tag) (s .vartags);
+  varbits = renew (varCount p) (λ v. settledVar p s c v .bits) (s .varbits);
+  looktags = s .looktags;
+  lookbits = s .lookbits;
+}
+
+-- how often j stands in the list
+unfoldable pub count : ℕ → List ℕ → ℕ
+count j [] = 0
+count j (i ∷ is) = if eqb j i then suc (count j is) else count j is
+
+-- "any list that names each node once"
+unfoldable pub NamesOnce : Image → List ℕ → Type 0
+NamesOnce p is = (j : ℕ) → count j is ≡ (if ltb j (nodeCount p) then 1 else 0)
+
+-- opens every definition of this file
+unfoldable pub opened : Unit {0}
+unfolding carryNothing putPlace meet visit walk wrote leads lost entered settledVar settle count NamesOnce
+opened = tt

@@ -1,0 +1,139 @@
+-- The whole reply of each call, and what is lent at exit: "Every call checks its image first, then 30, then 31 or 20 to 25 in order".
+use Prim.Native.Nat.{ℕ}
+use mathlib.Core.Bool.{Bool, true, false}
+use mathlib.Core.List.{List}
+use lib.ListN.{length}
+use lib.Dec.{eqb, ltb}
+use Rattle.plexil.specs.declared.State.{State}
+use Rattle.plexil.specs.declared.Card.{Card}
+use Rattle.plexil.specs.declared.Counts.{Counts}
+use Rattle.plexil.specs.declared.Rule.{Rule}
+use Rattle.plexil.specs.declared.Verdict.{Verdict}
+use Rattle.plexil.specs.declared.Verdict.the-variants.{Admitted, Refused}
+use Rattle.plexil.specs.declared.Checked.{Checked}
+use Rattle.plexil.specs.declared.Started.{Started}
+use Rattle.plexil.specs.declared.RunAnswer.{RunAnswer}
+use Rattle.plexil.specs.declared.RunAnswer.the-variants as ran
+use Rattle.plexil.specs.declared.Ran.{Ran}
+use Rattle.plexil.specs.declared.TakeAnswer.{TakeAnswer}
+use Rattle.plexil.specs.declared.TakeAnswer.the-variants as take
+use Rattle.plexil.specs.declared.Taken.{Taken}
+use Rattle.plexil.specs.Lists.{if_then_else_}
+use Rattle.plexil.specs.Image.{Image, nodeCount, exprCount, varCount, lookCount}
+use Rattle.plexil.specs.Places.{freshState, freshCard, Running, Quiet}
+use Rattle.plexil.specs.Check.{ruleNumber, verdict}
+use Rattle.plexil.specs.Quiescence.{End, atQuiet, spent, noRoom, Run, run}
+use Rattle.plexil.specs.Form.{goodKept}
+use Rattle.plexil.specs.Macro.{eventAnswer, entryCount, entered, cardAfter}
+
+-- a refusal's number in the table "Refusal numbers", 0 where nothing is refused, and the record or entry that it names
+pub record Numbered : Type 0 where
+  pub number : ℕ
+  pub record′ : ℕ
+
+unfoldable pub numbered : ℕ → ℕ → Numbered
+numbered n i = record { number = n; record′ = i }
+
+unfoldable pub verdictNumber : Verdict → Numbered
+verdictNumber Admitted = numbered 0 0
+verdictNumber (Refused r i) = numbered (ruleNumber r) i
+
+unfoldable pub runNumber : RunAnswer → Numbered
+runNumber (ran.Refused r i) = numbered (ruleNumber r) i
+runNumber ran.State = numbered 30 0
+runNumber ran.Place = numbered 31 0
+runNumber ran.NoRoom = numbered 32 0
+runNumber ran.Spent = numbered 0 0
+runNumber ran.Quiet = numbered 0 0
+
+unfoldable pub takeNumber : TakeAnswer → Numbered
+takeNumber (take.Refused r i) = numbered (ruleNumber r) i
+takeNumber take.State = numbered 30 0
+takeNumber take.Busy = numbered 20 0
+takeNumber take.Shape = numbered 21 0
+takeNumber take.Turn = numbered 22 0
+takeNumber (take.Entry k) = numbered 23 k
+takeNumber (take.Twice k) = numbered 24 k
+takeNumber (take.NotAwaited k) = numbered 25 k
+takeNumber take.Accepted = numbered 0 0
+
+-- ---- check
+abbrev pub countsOf : Image → Counts
+countsOf p = record { nodes = nodeCount p; exprs = exprCount p; vars = varCount p; looks = lookCount p }
+
+abbrev pub noCounts : Counts
+noCounts = record { nodes = 0; exprs = 0; vars = 0; looks = 0 }
+
+unfoldable pub checkedBy : Verdict → Image → Checked
+checkedBy Admitted p = record { verdict = Admitted; counts = countsOf p }
+checkedBy (Refused r i) p = record { verdict = Refused r i; counts = noCounts }
+
+unfoldable pub checkReply : Image → Checked
+checkReply p = checkedBy (verdict p) p
+
+-- ---- fresh start
+unfoldable pub startedBy : Verdict → Image → State → Card → Started
+startedBy Admitted p s c = record { verdict = Admitted; state = freshState p; card = freshCard }
+startedBy (Refused r i) p s c = record { verdict = Refused r i; state = s; card = c }
+
+unfoldable pub freshReply : Image → State → Card → Started
+freshReply p s c = startedBy (verdict p) p s c
+
+-- ---- run
+unfoldable pub endAnswer : End → RunAnswer
+endAnswer atQuiet = ran.Quiet
+endAnswer spent = ran.Spent
+endAnswer noRoom = ran.NoRoom
+
+-- "The phase is Quiet exactly after the answer Quiet"
+unfoldable pub phaseAfter : End → ℕ
+phaseAfter atQuiet = Quiet
+phaseAfter spent = Running
+phaseAfter noRoom = Running
+
+-- a run's reply beside the list at its exit
+pub record RunReply : Type 0 where
+  pub ran : Ran
+  pub list : List ℕ
+
+-- "refusals but 32 answer 0 and the given start place"
+unfoldable pub notRun : RunAnswer → State → Card → List ℕ → ℕ → RunReply
+notRun a s c l start = record { ran = record { answer = a; steps = 0; next = start; state = s; card = c }; list = l }
+
+unfoldable pub hasRun : Card → Run → RunReply
+hasRun c r = record {
+  ran = record {
+    answer = endAnswer (r .end);
+    steps = r .steps;
+    next = r .next;
+    state = r .state;
+    card = record { serial = c .serial; phase = phaseAfter (r .end) };
+  };
+  list = r .list;
+}
+
+unfoldable pub ranBy : Verdict → Image → State → Card → ℕ → List ℕ → ℕ → RunReply
+ranBy (Refused r i) p s c budget l start = notRun (ran.Refused r i) s c l start
+ranBy Admitted p s c budget l start =
+    if goodKept p s c then (if ltb (length l) start then notRun ran.Place s c l start else hasRun c (run p s budget l start)) else notRun ran.State s c l start
+
+unfoldable pub runReply : Image → State → Card → ℕ → List ℕ → ℕ → RunReply
+runReply p s c budget l start = ranBy (verdict p) p s c budget l start
+
+-- ---- the taking of an event
+-- "Apart from 32 a refusal changes nothing"
+unfoldable pub takenBy : TakeAnswer → Image → State → Card → List ℕ → Taken
+takenBy a p s c b =
+    if eqb (takeNumber a .number) 0 then record { answer = a; state = entered p b (entryCount b) s; card = cardAfter c } else record { answer = a; state = s; card = c }
+
+unfoldable pub takeAnswer : Verdict → Image → State → Card → List ℕ → TakeAnswer
+takeAnswer (Refused r i) p s c b = take.Refused r i
+takeAnswer Admitted p s c b = if goodKept p s c then eventAnswer p s c b else take.State
+
+unfoldable pub takeReply : Image → State → Card → List ℕ → Taken
+takeReply p s c b = takenBy (takeAnswer (verdict p) p s c b) p s c b
+
+-- opens every definition of this file
+unfoldable pub opened : Unit {0}
+unfolding numbered verdictNumber runNumber takeNumber checkedBy checkReply startedBy freshReply endAnswer phaseAfter notRun hasRun ranBy runReply takenBy takeAnswer takeReply
+opened = tt

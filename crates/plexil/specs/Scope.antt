@@ -1,0 +1,77 @@
+-- Refusals 10 to 12: what a node's expressions reach. The walks go down with the remaining depth, and up to node 0.
+use Prim.Native.Nat.{ℕ, zero, suc}
+use mathlib.Core.Bool.{Bool, true, false, not}
+use mathlib.Core.List.{List, [], _∷_}
+use lib.Dec.{eqb}
+use Rattle.plexil.specs.declared.Condition.{Condition}
+use Rattle.plexil.specs.Lists.{every, some}
+use Rattle.plexil.specs.Image.{Image, default, parent, conditionField, what, valueField, resultKind, operandA, operandB, varKind, owner}
+use Rattle.plexil.specs.Expressions.{Leaf, constantOp, variableOp, lookupOp, statusOp, outcomeOp, failureOp, Operator, leaf, notOp, binary, noOperator, operatorAt}
+use Rattle.plexil.specs.Records.{isAssignment, allConditions}
+
+-- each operand of entry e passes
+unfoldable pub operandsPass : Operator → Image → ℕ → (ℕ → Bool) → Bool
+operandsPass (leaf o) p e f = true
+operandsPass notOp p e f = f (operandA p e)
+operandsPass (binary o) p e f = every (f (operandA p e) ∷ f (operandB p e) ∷ [])
+operandsPass noOperator p e f = true
+
+-- "A leaf has depth 1, an operator one more than its deepest operand": the tree at e is at most d deep
+unfoldable pub depthWithin : Image → ℕ → ℕ → Bool
+depthWithin p zero e = false
+depthWithin p (suc d) e = operandsPass (operatorAt p e) p e (λ x. depthWithin p d x)
+
+-- "10 Deep: depth over 12"
+unfoldable pub shallow : Image → ℕ → Bool
+shallow p e = depthWithin p 12 e
+
+-- each condition of node i that is given passes, and so does an assignment's value
+unfoldable pub givenPass : Image → ℕ → (ℕ → Bool) → Bool
+givenPass p i f = allConditions (λ c. some (eqb (conditionField p i c) default ∷ f (conditionField p i c) ∷ []))
+
+unfoldable pub assigns : Image → ℕ → Bool → Bool
+assigns p i b = some (not (isAssignment p i) ∷ b ∷ [])
+
+-- "11 Kind: condition not Bool, value kind not the target's"
+unfoldable pub goodKinds : Image → ℕ → Bool
+goodKinds p i =
+    every (givenPass p i (λ e. eqb (resultKind p e) 0) ∷ assigns p i (eqb (resultKind p (valueField p i)) (varKind p (what p i))) ∷ [])
+
+-- o is node i or above it; the walk goes up at most n nodes
+unfoldable pub isAbove : Image → ℕ → ℕ → ℕ → Bool
+isAbove p zero o i = false
+isAbove p (suc n) o zero = eqb o 0
+isAbove p (suc n) o (suc i) = elim (eqb o (suc i)) [ true ↦ true | false ↦ isAbove p n o (parent p (suc i)) ]
+
+-- variable v's owner is node i or above it
+unfoldable pub inScope : Image → ℕ → ℕ → Bool
+inScope p i v = isAbove p (suc i) (owner p v) i
+
+unfoldable pub leafInScope : Leaf → Image → ℕ → ℕ → Bool
+leafInScope constantOp p i e = true
+leafInScope variableOp p i e = inScope p i (operandA p e)
+leafInScope lookupOp p i e = true
+leafInScope statusOp p i e = true
+leafInScope outcomeOp p i e = true
+leafInScope failureOp p i e = true
+
+unfoldable pub ownInScope : Operator → Image → ℕ → ℕ → Bool
+ownInScope (leaf o) p i e = leafInScope o p i e
+ownInScope notOp p i e = true
+ownInScope (binary o) p i e = true
+ownInScope noOperator p i e = true
+
+-- node i may read each variable in the tree at e, d levels down
+unfoldable pub treeInScope : Image → ℕ → ℕ → ℕ → Bool
+treeInScope p i zero e = false
+treeInScope p i (suc d) e = every (ownInScope (operatorAt p e) p i e ∷ operandsPass (operatorAt p e) p e (λ x. treeInScope p i d x) ∷ [])
+
+-- "12 Reach: a node reads or assigns a variable whose owner is neither it nor above it"
+unfoldable pub goodReach : Image → ℕ → Bool
+goodReach p i =
+    every (givenPass p i (treeInScope p i 12) ∷ assigns p i (every (treeInScope p i 12 (valueField p i) ∷ inScope p i (what p i) ∷ [])) ∷ [])
+
+-- opens every definition of this file
+unfoldable pub opened : Unit {0}
+unfolding operandsPass depthWithin shallow givenPass assigns goodKinds isAbove inScope leafInScope ownInScope treeInScope goodReach
+opened = tt
