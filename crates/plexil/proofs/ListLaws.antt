@@ -78,6 +78,16 @@ pub some-stop : (b : Bool) (bs : List Bool) → b ≡ true → some (b ∷ bs) �
 unfolding some
 some-stop b bs e = if-true b true (some bs) e
 
+pub every-one : (b : Bool) → every (b ∷ []) ≡ b
+unfolding every if_then_else_
+every-one true = refl
+every-one false = refl
+
+pub some-one : (b : Bool) → some (b ∷ []) ≡ b
+unfolding some if_then_else_
+some-one true = refl
+some-one false = refl
+
 -- ---- numbers below n
 pub allBelow-at : (n : ℕ) (f : ℕ → Bool) → allBelow n f ≡ true → (i : ℕ) → i < n → f i ≡ true
 unfolding allBelow

@@ -69,6 +69,11 @@ Running = 0
 abbrev pub Quiet : ℕ
 Quiet = 1
 
+-- a state by its arrays
+abbrev pub stateOf : List ℕ → List ℕ → List ℕ → List ℕ → List ℕ → List ℕ → List ℕ → List ℕ → State
+stateOf st oc fl mk vt vb lt lb =
+    record { status = st; outcome = oc; failure = fl; mark = mk; vartags = vt; varbits = vb; looktags = lt; lookbits = lb }
+
 -- what stands at node i, at variable v, at lookup l
 unfoldable pub statusAt : State → ℕ → Status
 statusAt s i = statusOf (getD (s .status) i 0)

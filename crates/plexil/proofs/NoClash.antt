@@ -1,0 +1,93 @@
+-- No expression meets a value of another kind: no entry read is a Clash, a condition is a Bool or Unknown, an assignment's value has its target's kind.
+use Prim.Native.Nat.{ℕ, _<_}
+use mathlib.Core.Path.{_≡_, refl, sym, _∙_}
+use mathlib.Core.Bool.{Bool, true, false, true≢false}
+use mathlib.Core.List.{[], _∷_}
+use lib.Dec.{eqb}
+use borrow.Author.Tests.{ltb-true, eqb-true}
+use Rattle.plexil.specs.declared.Worked.the-variants.{Clash}
+use Rattle.plexil.specs.declared.State.{State}
+use Rattle.plexil.specs.declared.Condition.{Condition}
+use Rattle.plexil.specs.declared.Condition.the-variants.{Skip, Start, Pre, Inv, End, Post, Repeat}
+use Rattle.plexil.specs.Lists.{if_then_else_, some}
+use Rattle.plexil.specs.Image.{Image, default, nodeCount, exprCount, nodeType, conditionField, what, valueField, resultKind, varKind}
+use Rattle.plexil.specs.Expressions.{valueOf}
+use Rattle.plexil.specs.Records.{isList, isCommand, isAssignment, allConditions, goodCondition, goodWhat, goodNode}
+use Rattle.plexil.specs.Scope.{shallow, givenPass, assigns, goodKinds}
+use Rattle.plexil.specs.Atomic.{condition}
+use Rattle.plexil.specs.Promises.{IsAdmitted, IsKept, Reads, itself, ofNot, leftOf, rightOf, NoClash}
+use Rattle.plexil.proofs.ListLaws.{if-either, every-at, every-stop, some-cons}
+use Rattle.plexil.proofs.Admitted.{good-node, good-kinds, is-shallow}
+use Rattle.plexil.proofs.OperatorKinds.{Has, bool}
+use Rattle.plexil.proofs.EntryKinds.{Within, operands-within, eval-has}
+
+-- ---- every entry read
+clash-has : {k : ℕ} → Has k Clash → ⊥
+clash-has h = elim h [ ]
+
+reads-within : (p : Image) → IsAdmitted p → {d e k x : ℕ} → Reads p d e k x → Within p d e → Within p k x
+reads-within p a itself w = w
+reads-within p a (ofNot {d = d} {e = e} o r) w = reads-within p a r (rw o at (operands-within p a d e w))
+reads-within p a (leftOf {d = d} {e = e} b o r) w = reads-within p a r ((rw o at (operands-within p a d e w)) .0)
+reads-within p a (rightOf {d = d} {e = e} b o r) w = reads-within p a r ((rw o at (operands-within p a d e w)) .1)
+
+shallow-within : (p : Image) → IsAdmitted p → (e : ℕ) → e < exprCount p → Within p 12 e
+unfolding shallow
+shallow-within p a e b = record { there = b; deep = is-shallow p a e b }
+
+pub no-clash : NoClash
+no-clash p s a t e k x b r h = clash-has (rw h at (eval-has p a s t k x (reads-within p a r (shallow-within p a e b))))
+
+-- ---- tests of a node's record
+some-else : (a b : Bool) → some (a ∷ b ∷ []) ≡ true → a ≡ false → b ≡ true
+unfolding some if_then_else_
+some-else true b h e = absurd (true≢false e)
+some-else false true h e = refl
+some-else false false h e = h
+
+allConditions-at : (f : Condition → Bool) → allConditions f ≡ true → (c : Condition) → f c ≡ true
+unfolding allConditions
+allConditions-at f h Skip = every-at _ 0 h
+allConditions-at f h Start = every-at _ 1 h
+allConditions-at f h Pre = every-at _ 2 h
+allConditions-at f h Inv = every-at _ 3 h
+allConditions-at f h End = every-at _ 4 h
+allConditions-at f h Post = every-at _ 5 h
+allConditions-at f h Repeat = every-at _ 6 h
+
+module _ (p : Image) (a : IsAdmitted p) (i : ℕ) (b : i < nodeCount p) where
+  given-there : (c : Condition) → eqb (conditionField p i c) default ≡ false → conditionField p i c < exprCount p
+  unfolding goodNode goodCondition
+  given-there c e = ltb-true _ _ (some-else _ _ (allConditions-at _ (every-at _ 2 (good-node p a i b)) c) e)
+
+  given-bool : (c : Condition) → eqb (conditionField p i c) default ≡ false → resultKind p (conditionField p i c) ≡ 0
+  unfolding goodKinds givenPass
+  given-bool c e = eqb-true _ _ (some-else _ _ (allConditions-at _ (every-at _ 0 (good-kinds p a i b)) c) e)
+
+  value-there : isAssignment p i ≡ true → valueField p i < exprCount p
+  unfolding goodNode goodWhat isList isCommand isAssignment
+  value-there t =
+      let n : nodeType p i ≡ 2 = eqb-true _ _ t in
+      let notList = sym (some-cons _ _ (every-stop _ _ (rw n))) ∙ every-at _ 1 (good-node p a i b) in
+      ltb-true _ _ (every-at _ 2 (some-else _ _ notList (every-stop _ _ (rw n))))
+
+  value-kind : isAssignment p i ≡ true → resultKind p (valueField p i) ≡ varKind p (what p i)
+  unfolding goodKinds assigns
+  value-kind t = eqb-true _ _ (some-else _ _ (every-at _ 1 (good-kinds p a i b)) (rw t))
+
+-- ---- what the rules read
+module _ (p : Image) (s : State) (a : IsAdmitted p) (t : IsKept p s) where
+  value-has : (e : ℕ) → e < exprCount p → Has (resultKind p e) (valueOf p s e)
+  unfolding valueOf
+  value-has e b = eval-has p a s t 12 e (shallow-within p a e b)
+
+  -- a condition is True, False or Unknown
+  pub condition-has : (i : ℕ) → i < nodeCount p → (c : Condition) → Has 0 (condition p s i c)
+  unfolding condition
+  condition-has i b c =
+      if-either (Has 0) (eqb (conditionField p i c) default) _ _ (λ e. bool)
+      (λ e. rw (given-bool p a i b c e) at (value-has (conditionField p i c) (given-there p a i b c e)))
+
+  -- what an assignment writes has its target's kind
+  pub assigned-has : (i : ℕ) → i < nodeCount p → isAssignment p i ≡ true → Has (varKind p (what p i)) (valueOf p s (valueField p i))
+  assigned-has i b n = rw (value-kind p a i b n) at (value-has (valueField p i) (value-there p a i b n))
