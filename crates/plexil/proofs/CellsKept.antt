@@ -2,9 +2,7 @@
 use Prim.Native.Nat.{ℕ, zero, suc, _<_, _≤_}
 use mathlib.Core.Path.{_≡_, refl, subst}
 use mathlib.Core.Bool.{Bool, true, false, false≢true}
-use mathlib.Core.List.{List, _++_}
 use native.Mathlib.Omega.{arith}
-use lib.ListN.{drop}
 use lib.Dec.{eqb}
 use lib.Ieee.{binary64}
 use lib.Ieee.Bits.{ofBits-toBits}
@@ -12,17 +10,18 @@ use borrow.Author.Tests.{eqb-true}
 use Rattle.plexil.specs.declared.Worked.{Worked}
 use Rattle.plexil.specs.declared.Cell.{Cell}
 use Rattle.plexil.specs.declared.State.{State}
-use Rattle.plexil.specs.Lists.{if_then_else_, every, allBelow, countFrom, renew}
+use Rattle.plexil.specs.Lists.{if_then_else_, every, allBelow}
 use Rattle.plexil.specs.Values.{goodBits, cell, encode}
 use Rattle.plexil.specs.Image.{Image, nodeCount, varCount, lookCount, varKind, lookKind, owner}
 use Rattle.plexil.specs.Places.{varCell, lookCell, knownCell, initial}
 use Rattle.plexil.specs.Records.{goodConstant, goodVariable, isAssignment}
 use Rattle.plexil.specs.Atomic.{moveOf}
 use Rattle.plexil.specs.Micro.{writes, written, wins, entersWaiting, unwritten, writtenBelow, varAfter, step}
-use Rattle.plexil.specs.Form.{goodCell, hasKind, zeroFrom, unusedEmpty, goodState}
+use Rattle.plexil.specs.Form.{goodCell, hasKind, unusedEmpty, goodState}
 use Rattle.plexil.specs.Promises.{IsAdmitted, IsKept}
 use Rattle.plexil.proofs.ListLaws.{if-either, every-at, allBelow-at, allBelow-all, renew-at}
 use Rattle.plexil.proofs.Admitted.{good-variable}
+use Rattle.plexil.proofs.UnusedPlaces.{zeroFrom-renew}
 use Rattle.plexil.proofs.OperatorKinds.{Has, unknown, bool, int, real}
 use Rattle.plexil.proofs.NoClash.{assigned-has}
 
@@ -106,15 +105,6 @@ variables-kept p s a t = allBelow-all _ _ (λ v b. rw (varCell-step p s v b) (af
 pub lookups-kept : (p : Image) (s : State) → IsKept p s → allBelow (lookCount p) (λ l. hasKind (lookKind p l) (lookCell (step p s) l)) ≡ true
 unfolding goodState step lookCell
 lookups-kept p s t = every-at _ 2 t
-
-drop-countFrom {ℓ} : {A : Type ℓ} (n i : ℕ) (f : ℕ → A) (l : List A) → drop n (countFrom i f n ++ l) ≡ l
-unfolding countFrom
-drop-countFrom zero i f l = refl
-drop-countFrom (suc n) i f l = drop-countFrom n (suc i) f l
-
-zeroFrom-renew : (n : ℕ) (f : ℕ → ℕ) (l : List ℕ) → zeroFrom n (renew n f l) ≡ zeroFrom n l
-unfolding zeroFrom renew
-zeroFrom-renew n f l = rw (drop-countFrom n 0 f (drop n l))
 
 pub unused-kept : (p : Image) (s : State) → IsKept p s → unusedEmpty p (step p s) ≡ true
 unfolding goodState unusedEmpty step

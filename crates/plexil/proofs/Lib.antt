@@ -19,3 +19,13 @@ pub mod Landing
 pub mod Settling
 pub mod AnyOrder
 pub mod NodeOrder
+pub mod KeptState
+pub mod SetLaws
+pub mod ParentTable
+pub mod PlacesKept
+pub mod NoReset
+pub mod UnusedPlaces
+pub mod FreshKept
+pub mod Accepted
+pub mod EventKept
+pub mod StepKept

@@ -6,15 +6,14 @@ use native.Mathlib.Omega.{arith}
 use Rattle.plexil.specs.declared.State.{State}
 use Rattle.plexil.specs.declared.Status.{Status}
 use Rattle.plexil.specs.declared.Status.the-variants.{Inactive, Waiting, Executing, Finishing, Failing, IterationEnded, Finished}
-use Rattle.plexil.specs.declared.Condition.the-variants.{Skip, Start, Pre, Inv, End, Repeat}
 use Rattle.plexil.specs.declared.Move.{Move}
 use Rattle.plexil.specs.declared.Move.the-variants.{Stay, Go}
 use Rattle.plexil.specs.declared.Effect.the-variants.{Kept, Cleared, Skipped as Skips, Failed, Judged}
 use Rattle.plexil.specs.Lists.{if_then_else_}
 use Rattle.plexil.specs.Image.{Image, nodeCount}
-use Rattle.plexil.specs.Places.{statusOf, same, statusAt, ByPre, ByInvariant, ByParent}
-use Rattle.plexil.specs.Records.{isList, isCommand, isAssignment}
-use Rattle.plexil.specs.Atomic.{isOff, isClosing, isResting, children, holds, fails, fromWaiting, failsBy, failureOr, atEnd, settled, fromEnded, byStatus, moveBy, moveOf}
+use Rattle.plexil.specs.Places.{statusOf, statusAt, ByPre, ByInvariant, ByParent}
+use Rattle.plexil.specs.Records.{isList, isAssignment}
+use Rattle.plexil.specs.Atomic.{isOff, isResting, children, parentStatus, fromWaiting, failsBy, failureOr, atEnd, settled, fromEnded, byStatus, moveBy, moveOf}
 use Rattle.plexil.specs.Micro.{place, placeBy, step}
 use Rattle.plexil.proofs.ListLaws.{if-either, every-at, renew-at}
 use Rattle.plexil.proofs.Statuses.{code-back}
@@ -24,15 +23,16 @@ pub data Open : Status → Type 0 where
   executing : Open Executing
   finishing : Open Finishing
 
--- the rule by which node i, of status c under a parent of status u, makes its move
+-- the rule by which node i, of status c under a parent of status u, makes its move, with what the proofs need of the rule's tests:
+-- breaksOff and dropsOut are the failures by the parent or by Inv, of a list or command and of an assignment
 pub data Made (p : Image) (s : State) (i : ℕ) : Status → Status → Move → Type 0 where
   resets : {c u : Status} → isOff u ≡ true → Made p s i c u (Go Inactive Cleared)
   wakes : {u : Status} → Made p s i Inactive u (Go Waiting Kept)
   skips : {u : Status} → Made p s i Waiting u (Go Finished Skips)
   starts : {u : Status} → Made p s i Waiting u (Go Executing Kept)
   refuses : {u : Status} → Made p s i Waiting u (Go IterationEnded (Failed ByPre))
-  breaks : {c u : Status} {f : ℕ} → Open c → f < 6 → isAssignment p i ≡ false → Made p s i c u (Go Failing (Failed f))
-  drops : {c u : Status} {f : ℕ} → Open c → f < 6 → isAssignment p i ≡ true → Made p s i c u (Go IterationEnded (Failed f))
+  breaksOff : {c u : Status} {f : ℕ} → Open c → f < 6 → isAssignment p i ≡ false → Made p s i c u (Go Failing (Failed f))
+  dropsOut : {c u : Status} {f : ℕ} → Open c → f < 6 → isAssignment p i ≡ true → Made p s i c u (Go IterationEnded (Failed f))
   closes : {u : Status} → isList p i ≡ true → Made p s i Executing u (Go Finishing Kept)
   ends : {u : Status} → isList p i ≡ false → Made p s i Executing u (Go IterationEnded Judged)
   closed : {u : Status} → children p s i isResting ≡ true → Made p s i Finishing u (Go IterationEnded Judged)
@@ -42,48 +42,48 @@ pub data Made (p : Image) (s : State) (i : ℕ) : Status → Status → Move →
   stays : {c u : Status} → Made p s i c u Stay
 
 module _ (p : Image) (s : State) (i : ℕ) where
-  either : {c u : Status} {x y : Move} (b : Bool) → (b ≡ true → Made p s i c u x) → (b ≡ false → Made p s i c u y) → Made p s i c u (if b then x else y)
-  either {c} {u} b h g = if-either (Made p s i c u) b _ _ h g
+  either : {c u : Status} {x y : Move} {b : Bool} → (b ≡ true → Made p s i c u x) → (b ≡ false → Made p s i c u y) → Made p s i c u (if b then x else y)
+  either {c} {u} h g = if-either (Made p s i c u) _ _ _ h g
 
   made-failing : (c u : Status) (f : ℕ) → Open c → f < 6 → Made p s i c u (failsBy p i f)
   unfolding failsBy
-  made-failing c u f o b = either (isAssignment p i) (drops o b) (breaks o b)
+  made-failing c u f o b = either (dropsOut o b) (breaksOff o b)
 
   made-failure : (c u : Status) (m : Move) → Open c → Made p s i c u m → Made p s i c u (failureOr u p s i m)
   unfolding failureOr
   made-failure c u m o h =
-      either (same u Failing) (λ e. made-failing c u ByParent o (omega arith))
-      (λ e. either (fails p s i Inv) (λ e. made-failing c u ByInvariant o (omega arith)) (λ e. h))
+      either (λ e. made-failing c u ByParent o (omega arith))
+      (λ e. either (λ e. made-failing c u ByInvariant o (omega arith)) (λ e. h))
 
   made-waiting : (u : Status) → Made p s i Waiting u (fromWaiting p s i)
   unfolding fromWaiting
-  made-waiting u =
-      either (holds p s i Skip) (λ e. skips)
-      (λ e. either (holds p s i Start) (λ e. either (holds p s i Pre) (λ e. starts) (λ e. refuses)) (λ e. stays))
+  made-waiting u = either (λ e. skips) (λ e. either (λ e. either (λ e. starts) (λ e. refuses)) (λ e. stays))
 
   made-end : (u : Status) → Made p s i Executing u (atEnd p s i)
   unfolding atEnd
-  made-end u = either (isList p i) closes (λ l. either (isCommand p i) (λ e. either _ (λ e. stays) (λ e. ends l)) (λ e. ends l))
+  made-end u = either closes (λ l. either (λ e. either (λ e. stays) (λ e. ends l)) (λ e. ends l))
 
   made-ended : (u : Status) → Made p s i IterationEnded u (fromEnded u p s i)
   unfolding fromEnded
-  made-ended u =
-      either (isClosing u) (λ e. finishes)
-      (λ e. either (same u Executing) (λ e. either (holds p s i Repeat) (λ e. repeats) (λ e. finishes)) (λ e. stays))
+  made-ended u = either (λ e. finishes) (λ e. either (λ e. either (λ e. repeats) (λ e. finishes)) (λ e. stays))
 
   made-by : (c u : Status) → Made p s i c u (byStatus c u p s i)
   unfolding byStatus
-  made-by Inactive u = either (same u Executing) (λ e. wakes) (λ e. stays)
-  made-by Waiting u = either (same u Executing) (λ e. made-waiting u) (λ e. stays)
-  made-by Executing u = made-failure Executing u _ executing (either (holds p s i End) (λ e. made-end u) (λ e. stays))
-  made-by Finishing u = made-failure Finishing u _ finishing (either (children p s i isResting) closed (λ e. stays))
-  made-by Failing u = either (settled p s i) failed (λ e. stays)
+  made-by Inactive u = either (λ e. wakes) (λ e. stays)
+  made-by Waiting u = either (λ e. made-waiting u) (λ e. stays)
+  made-by Executing u = made-failure Executing u _ executing (either (λ e. made-end u) (λ e. stays))
+  made-by Finishing u = made-failure Finishing u _ finishing (either closed (λ e. stays))
+  made-by Failing u = either failed (λ e. stays)
   made-by IterationEnded u = made-ended u
   made-by Finished u = stays
 
   pub made : (c u : Status) → Made p s i c u (moveBy c u p s i)
   unfolding moveBy
-  made c u = either _ (λ e. resets (every-at _ 1 e)) (λ e. made-by c u)
+  made c u = either (λ e. resets (every-at _ 1 e)) (λ e. made-by c u)
+
+  pub moved : Made p s i (statusAt s i) (parentStatus p s i) (moveOf p s i)
+  unfolding moveOf
+  moved = made (statusAt s i) (parentStatus p s i)
 
 -- ---- where a node of status c stands after a move
 unfoldable pub landing : Status → Move → Status

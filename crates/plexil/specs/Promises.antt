@@ -30,6 +30,17 @@ IsAdmitted p = verdict p ≡ Admitted
 abbrev pub IsKept : Image → State → Type 0
 IsKept p s = goodState p s ≡ true
 
+-- the arrays of a state have their lengths
+pub record Sized (s : State) : Type 0 where
+  pub status : length (s .status) ≡ 256
+  pub outcome : length (s .outcome) ≡ 256
+  pub failure : length (s .failure) ≡ 256
+  pub mark : length (s .mark) ≡ 256
+  pub vartags : length (s .vartags) ≡ 128
+  pub varbits : length (s .varbits) ≡ 128
+  pub looktags : length (s .looktags) ≡ 64
+  pub lookbits : length (s .lookbits) ≡ 64
+
 -- "from a fresh start, under any events and runs": any budget, list and place, also refused, Spent and NoRoom ones
 pub data Session (p : Image) : State → Card → Type 0 where
   fresh : IsAdmitted p → Session p (freshState p) freshCard
@@ -50,7 +61,7 @@ StepKept = (p : Image) (s : State) → IsAdmitted p → IsKept p s → IsKept p 
 
 abbrev pub EventKept : Type 0
 EventKept =
-    (p : Image) (s : State) (c : Card) (b : List ℕ) → IsAdmitted p → IsKept p s → eventAnswer p s c b ≡ Accepted → IsKept p (entered p b (entryCount b) s)
+    (p : Image) (s : State) (c : Card) (b : List ℕ) → IsAdmitted p → IsKept p s → Sized s → eventAnswer p s c b ≡ Accepted → IsKept p (entered p b (entryCount b) s)
 
 -- 2. Kinds. Working out entry e with d levels left reads entry x with k left
 pub data Reads (p : Image) : ℕ → ℕ → ℕ → ℕ → Type 0 where
@@ -101,15 +112,6 @@ abbrev pub WritersSettled : Type 0
 WritersSettled =
     (p : Image) (s : State) (v : ℕ)
     → Holds p s v × ((i : ℕ) → Sole p s v i → varAfter p s v ≡ written p s i) × ((j : ℕ) → Writer p s v j → (Sole p s v j → ⊥) → Lost p s j)
-
--- the arrays of a state have their lengths
-pub record Sized (s : State) : Type 0 where
-  pub status : length (s .status) ≡ 256
-  pub outcome : length (s .outcome) ≡ 256
-  pub failure : length (s .failure) ≡ 256
-  pub mark : length (s .mark) ≡ 256
-  pub vartags : length (s .vartags) ≡ 128
-  pub varbits : length (s .varbits) ≡ 128
 
 -- 6. "the nodes in any order, each once, give the same next state"
 abbrev pub AnyOrder : Type 0

@@ -1,0 +1,20 @@
+-- What stands at a place, and 0 past the end.
+use mathlib.Core.Path.{sym}
+use lib.ListN.{List·getD-eq-default}
+use borrow.Author.Needs.{needs}
+use Rattle.places.proofs.statuses.at.Statement.{statement}
+use Rattle.places.proofs.statuses.at.Tie as tie
+use Rattle.places.proofs.statuses.at.Reads as reads
+use Rattle.places.proofs.statuses.at.Lts as lts
+
+shared-slice-read-result : tie.Need-shared-slice-read-result
+shared-slice-read-result c = search needs
+
+returns : tie.Need-returns
+returns c = search needs
+
+returns-2 : tie.Need-returns-2
+returns-2 c = sym (List·getD-eq-default (c .before .args .places .now) 0 (c .if1 .left))
+
+pub at-spec : {M : Type 1} → statement M
+at-spec = tie.close (tie.spec shared-slice-read-result returns returns-2)

@@ -1,0 +1,20 @@
+use Rattle.places.proofs.StatusLaws.{status-in}
+use borrow.Author.Needs.{needs}
+use Rattle.places.proofs.statuses.status_at.Statement.{statement}
+use Rattle.places.proofs.statuses.status_at.Tie as tie
+use Rattle.places.proofs.statuses.status_at.Reads as reads
+use Rattle.places.proofs.statuses.status_at.Lts as lts
+use Rattle.places.proofs.statuses.at.Reads as at-reads
+use Rattle.places.proofs.statuses.status_of.Reads as status-of-reads
+
+at-requires : tie.Need-at-requires
+at-requires c κs = search needs
+
+status-of-requires : tie.Need-status-of-requires
+status-of-requires c κs = search needs
+
+returns : tie.Need-returns
+returns c = status-in _ _ (c .before .at .ensures) (c .status-of .ensures)
+
+pub status-at-spec : {M : Type 1} → statement M
+status-at-spec = tie.close (tie.spec at-requires status-of-requires returns)

@@ -1,0 +1,10 @@
+-- The exponent is not all ones.
+use Rattle.values.proofs.Finite.{finite-bits}
+use Rattle.values.proofs.cells.finite_bits.Statement.{statement}
+use Rattle.values.proofs.cells.finite_bits.Tie as tie
+
+pub finite-bits-spec : {M : Type 1} → statement M
+finite-bits-spec =
+    tie.close
+    (tie.spec
+    (λ c. finite-bits _))
