@@ -6,12 +6,6 @@ use Rattle.plexil.specs.Places.{knownCell, initial}
 use borrow.Author.Needs.{needs}
 use Rattle.places.proofs.cells.initial.Statement.{statement}
 use Rattle.places.proofs.cells.initial.Tie as tie
-use Rattle.places.proofs.cells.initial.Reads as reads
-use Rattle.places.proofs.cells.initial.Lts as lts
-use Rattle.image.proofs.initial_bits.Reads as initial-bits-reads
-use Rattle.image.proofs.var_kind.Reads as var-kind-reads
-use Rattle.image.proofs.var_known.Reads as var-known-reads
-use Rattle.places.proofs.cells.known_cell.Reads as known-cell-reads
 
 var-known-requires : tie.Need-var-known-requires
 var-known-requires c κs = search needs

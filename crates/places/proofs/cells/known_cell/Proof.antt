@@ -6,8 +6,6 @@ use Rattle.plexil.specs.Places.{knownCell}
 use borrow.Author.Needs.{needs}
 use Rattle.places.proofs.cells.known_cell.Statement.{statement}
 use Rattle.places.proofs.cells.known_cell.Tie as tie
-use Rattle.places.proofs.cells.known_cell.Reads as reads
-use Rattle.places.proofs.cells.known_cell.Lts as lts
 
 add-t5 : tie.Need-add-t5
 add-t5 c = search needs

@@ -4,8 +4,6 @@ use lib.ListN.{List·getD-eq-default}
 use borrow.Author.Needs.{needs}
 use Rattle.places.proofs.statuses.at.Statement.{statement}
 use Rattle.places.proofs.statuses.at.Tie as tie
-use Rattle.places.proofs.statuses.at.Reads as reads
-use Rattle.places.proofs.statuses.at.Lts as lts
 
 shared-slice-read-result : tie.Need-shared-slice-read-result
 shared-slice-read-result c = search needs

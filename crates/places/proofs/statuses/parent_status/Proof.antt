@@ -4,10 +4,6 @@ use Rattle.places.proofs.StatusLaws.{root-reads, child-reads}
 use borrow.Author.Needs.{needs}
 use Rattle.places.proofs.statuses.parent_status.Statement.{statement}
 use Rattle.places.proofs.statuses.parent_status.Tie as tie
-use Rattle.places.proofs.statuses.parent_status.Reads as reads
-use Rattle.places.proofs.statuses.parent_status.Lts as lts
-use Rattle.image.proofs.parent.Reads as parent-reads
-use Rattle.places.proofs.statuses.status_at.Reads as status-at-reads
 
 returns : tie.Need-returns
 returns c = λ s e. root-reads _ _ (c .if1 .taken) s

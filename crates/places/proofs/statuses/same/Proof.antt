@@ -4,9 +4,6 @@ use Rattle.plexil.specs.Places.{same}
 use borrow.Author.Needs.{needs}
 use Rattle.places.proofs.statuses.same.Statement.{statement}
 use Rattle.places.proofs.statuses.same.Tie as tie
-use Rattle.places.proofs.statuses.same.Reads as reads
-use Rattle.places.proofs.statuses.same.Lts as lts
-use Rattle.places.proofs.statuses.status_code.Reads as status-code-reads
 
 status-code-requires : tie.Need-status-code-requires
 status-code-requires c κs = search needs

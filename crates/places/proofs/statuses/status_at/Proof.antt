@@ -2,10 +2,6 @@ use Rattle.places.proofs.StatusLaws.{status-in}
 use borrow.Author.Needs.{needs}
 use Rattle.places.proofs.statuses.status_at.Statement.{statement}
 use Rattle.places.proofs.statuses.status_at.Tie as tie
-use Rattle.places.proofs.statuses.status_at.Reads as reads
-use Rattle.places.proofs.statuses.status_at.Lts as lts
-use Rattle.places.proofs.statuses.at.Reads as at-reads
-use Rattle.places.proofs.statuses.status_of.Reads as status-of-reads
 
 at-requires : tie.Need-at-requires
 at-requires c κs = search needs

@@ -3,8 +3,6 @@ use Rattle.plexil.specs.Places.{statusCode}
 use borrow.Author.Needs.{needs}
 use Rattle.places.proofs.statuses.status_code.Statement.{statement}
 use Rattle.places.proofs.statuses.status_code.Tie as tie
-use Rattle.places.proofs.statuses.status_code.Reads as reads
-use Rattle.places.proofs.statuses.status_code.Lts as lts
 
 enum-told : tie.Need-enum-told
 enum-told c = search needs

@@ -2,8 +2,6 @@ use Rattle.plexil.specs.Places.{statusOf}
 use Rattle.places.proofs.StatusLaws.{other-code}
 use Rattle.places.proofs.statuses.status_of.Statement.{statement}
 use Rattle.places.proofs.statuses.status_of.Tie as tie
-use Rattle.places.proofs.statuses.status_of.Reads as reads
-use Rattle.places.proofs.statuses.status_of.Lts as lts
 
 returns : tie.Need-returns
 unfolding statusOf

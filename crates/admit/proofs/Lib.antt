@@ -1,0 +1,9 @@
+pub mod Laws
+pub mod NodeLaws
+pub mod Operators
+pub mod EntryLaws
+pub mod Scope
+pub mod DepthLaws
+pub mod Ordered
+pub mod DepthTable
+pub mod Verdicts

@@ -1,0 +1,14 @@
+-- Default, or a Bool.
+use mathlib.Core.Path.{refl}
+use Rattle.admit.proofs.Laws.{eq-yes, eq-no, either-first, either-second}
+use Rattle.admit.proofs.kinds.bool_condition.Statement.{statement}
+use Rattle.admit.proofs.kinds.bool_condition.Tie as tie
+
+pub bool-condition-spec : {M : Type 1} → statement M
+bool-condition-spec =
+    tie.close
+    (tie.spec
+    (λ _ _. tt)
+    (λ c. either-first _ (eq-yes (c .before .condition-field .ensures) refl (c .if1 .taken)))
+    (λ _ _. tt)
+    (λ c. either-second (eq-no (c .before .before .condition-field .ensures) refl (c .before .if1 .left)) (rw (c .result-kind .ensures, c .before .before .condition-field .ensures))))

@@ -1,0 +1,14 @@
+-- Default, or a tree in scope.
+use mathlib.Core.Path.{refl}
+use Rattle.admit.proofs.Laws.{eq-yes, eq-no, either-first, either-second}
+use Rattle.admit.proofs.reach.condition_in_scope.Statement.{statement}
+use Rattle.admit.proofs.reach.condition_in_scope.Tie as tie
+
+pub condition-in-scope-spec : {M : Type 1} → statement M
+condition-in-scope-spec =
+    tie.close
+    (tie.spec
+    (λ _ _. tt)
+    (λ c. either-first _ (eq-yes (c .before .condition-field .ensures) refl (c .if1 .taken)))
+    (λ _ _. tt)
+    (λ c. either-second (eq-no (c .before .before .condition-field .ensures) refl (c .before .if1 .left)) (rw (c .before .before .condition-field .ensures) at (c .tree-in-scope .ensures))))

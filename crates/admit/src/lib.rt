@@ -1,0 +1,60 @@
+// The check of a plan image: the lowest broken of the rules 1 to 12, with the lowest record that breaks it.
+mod conditions;
+mod depth;
+mod expressions;
+mod found;
+mod header;
+mod kinds;
+mod nodes;
+mod operands;
+mod reach;
+mod rules;
+mod variables;
+
+use plexil::Checked;
+use plexil::Counts;
+use plexil::Verdict;
+ghost use mathlib.Core.Path.{_≡_};
+ghost use Rattle.plexil.specs.Replies.{countsOf, checkedBy, checkReply};
+
+fn counts(image: &[u8]) -> Counts
+    ensures { λ r. ⌜ r ≡ countsOf (now (image .entry)) ⌝ }
+{
+    let nodes = image::node_count(image);
+    let exprs = image::expr_count(image);
+    let vars = image::var_count(image);
+    let looks = image::look_count(image);
+    Counts {
+        nodes,
+        exprs,
+        vars,
+        looks,
+    }
+}
+
+fn checked(image: &[u8], v: Verdict) -> Checked
+    ensures { λ r. ⌜ r ≡ checkedBy v (now (image .entry)) ⌝ }
+{
+    match v {
+        Verdict::Admitted => Checked {
+            verdict: Verdict::Admitted,
+            counts: counts(image),
+        },
+        Verdict::Refused(rule, i) => Checked {
+            verdict: Verdict::Refused(rule, i),
+            counts: Counts {
+                nodes: 0,
+                exprs: 0,
+                vars: 0,
+                looks: 0,
+            },
+        },
+    }
+}
+
+// The verdict with the checked counts, all 0 where the image is refused.
+pub fn check(image: &[u8]) -> Checked
+    ensures { λ r. ⌜ r ≡ checkReply (now (image .entry)) ⌝ }
+{
+    checked(image, rules::verdict(image))
+}

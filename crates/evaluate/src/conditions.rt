@@ -1,0 +1,102 @@
+// A node's condition in a state, where normal answers for the default.
+use super::entries::value_of;
+use plexil::Worked;
+ghost use mathlib.Core.Path.{_≡_};
+ghost use mathlib.Core.List.{List};
+ghost use Prim.Native.Nat.{ℕ};
+ghost use Rattle.plexil.specs.Values.{isTrue, isFalse};
+ghost use Rattle.plexil.specs.Places.{stateOf};
+ghost use Rattle.evaluate.specs.Condition.{conditionOr};
+
+// "expression, or 65535 for default"
+pub fn condition<'a>(
+    image: &'a [u8],
+    status: &'a [u8],
+    outcome: &'a [u8],
+    failure: &'a [u8],
+    vartags: &'a [u8],
+    varbits: &'a [u64],
+    looktags: &'a [u8],
+    lookbits: &'a [u64],
+    i: u16,
+    c: plexil::Condition,
+    normal: bool,
+) -> Worked
+    ensures { λ r. ⌜ ((mark : List ℕ) → r ≡ conditionOr (now (image .entry)) (stateOf (now (status .entry)) (now (outcome .entry)) (now (failure .entry)) mark (now (vartags .entry)) (now (varbits .entry)) (now (looktags .entry)) (now (lookbits .entry))) i c normal) ⌝ }
+{
+    let e = image::condition_field(image, i, c);
+    if e == 65535 {
+        return Worked::Bool(normal);
+    }
+    value_of(
+        image,
+        status,
+        outcome,
+        failure,
+        vartags,
+        varbits,
+        looktags,
+        lookbits,
+        e,
+    )
+}
+
+pub fn holds<'a>(
+    image: &'a [u8],
+    status: &'a [u8],
+    outcome: &'a [u8],
+    failure: &'a [u8],
+    vartags: &'a [u8],
+    varbits: &'a [u64],
+    looktags: &'a [u8],
+    lookbits: &'a [u64],
+    i: u16,
+    c: plexil::Condition,
+    normal: bool,
+) -> bool
+    ensures { λ r. ⌜ ((mark : List ℕ) → r ≡ isTrue (conditionOr (now (image .entry)) (stateOf (now (status .entry)) (now (outcome .entry)) (now (failure .entry)) mark (now (vartags .entry)) (now (varbits .entry)) (now (looktags .entry)) (now (lookbits .entry))) i c normal)) ⌝ }
+{
+    values::is_true(condition(
+        image,
+        status,
+        outcome,
+        failure,
+        vartags,
+        varbits,
+        looktags,
+        lookbits,
+        i,
+        c,
+        normal,
+    ))
+}
+
+pub fn fails<'a>(
+    image: &'a [u8],
+    status: &'a [u8],
+    outcome: &'a [u8],
+    failure: &'a [u8],
+    vartags: &'a [u8],
+    varbits: &'a [u64],
+    looktags: &'a [u8],
+    lookbits: &'a [u64],
+    i: u16,
+    c: plexil::Condition,
+    normal: bool,
+) -> bool
+    ensures { λ r. ⌜ ((mark : List ℕ) → r ≡ isFalse (conditionOr (now (image .entry)) (stateOf (now (status .entry)) (now (outcome .entry)) (now (failure .entry)) mark (now (vartags .entry)) (now (varbits .entry)) (now (looktags .entry)) (now (lookbits .entry))) i c normal)) ⌝ }
+{
+    values::is_false(condition(
+        image,
+        status,
+        outcome,
+        failure,
+        vartags,
+        varbits,
+        looktags,
+        lookbits,
+        i,
+        c,
+        normal,
+    ))
+}

@@ -1,0 +1,29 @@
+-- Test after test.
+use Prim.Native.Nat.{ℕ}
+use mathlib.Core.Path.{ap, sym, _∙_}
+use lib.Dec.{leb}
+use borrow.Author.Tests.{le-leb, lt-leb}
+use Rattle.plexil.specs.Macro.{goodShape}
+use Rattle.form.proofs.Laws.{one-fails, and-then, and-last, is-num, not-num}
+use Rattle.events.proofs.Laws.{long-as}
+use borrow.Author.Needs.{needs}
+use Rattle.events.proofs.shape.good_shape.Statement.{statement}
+use Rattle.events.proofs.shape.good_shape.Tie as tie
+
+pub good-shape-spec : {M : Type 1} → statement M
+unfolding goodShape
+good-shape-spec =
+    tie.close
+    (tie.spec
+    (λ c. one-fails _ 0 (lt-leb _ _ (c .if1 .taken)))
+    (λ _ _. tt)
+    (λ c. one-fails _ 1 (ap (λ (n : ℕ). leb n 128) (sym (c .before .entry-count .ensures)) ∙ lt-leb _ _ (c .if2 .taken)))
+    (λ _ _. tt)
+    (λ c. one-fails _ 2 (not-num 0 (c .before .le16 .ensures) (c .if3 .taken)))
+    (λ c. search needs)
+    (λ c. search needs)
+    (λ c. search needs)
+    (λ c. and-then _ _ (le-leb _ _ (c .before .before .before .before .if1 .left))
+    (and-then _ _ (ap (λ (n : ℕ). leb n 128) (sym (c .before .before .before .entry-count .ensures)) ∙ le-leb _ _ (c .before .before .if2 .left))
+    (and-then _ _ (is-num 0 (c .before .le16 .ensures) (c .if3 .left))
+    (and-last _ (long-as _ (c .before .before .before .entry-count .ensures)))))))

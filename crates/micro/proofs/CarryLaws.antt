@@ -1,0 +1,114 @@
+-- One visit in parts: the node's place put, and its write met.
+use Prim.Native.Nat.{ℕ, suc, _+_, _<_}
+use native.Mathlib.Numerals.{add-one}
+use lib.ListN.{length, set}
+use mathlib.Core.Path.{_≡_, refl, sym, ap, _∙_}
+use mathlib.Core.Bool.{Bool, true, false, not, _||_}
+use mathlib.Core.List.{List, [], _∷_}
+use Rattle.plexil.specs.declared.Cell.{Cell}
+use Rattle.plexil.specs.declared.State.{State}
+use Rattle.plexil.specs.declared.Place.{Place}
+use Rattle.plexil.specs.declared.Move.{Move}
+use Rattle.plexil.specs.declared.Worked.{Worked}
+use Rattle.plexil.specs.Lists.{if_then_else_, every, allBelow, renew}
+use Rattle.plexil.specs.Values.{encode}
+use Rattle.plexil.specs.Image.{Image, nodeCount, what, priority, valueField}
+use Rattle.plexil.specs.Expressions.{valueOf}
+use Rattle.plexil.specs.Records.{isAssignment}
+use Rattle.plexil.specs.Atomic.{moveOf}
+use Rattle.plexil.specs.Micro.{judges, writes, written, placeBy, place, sentBy, sent, stays}
+use Rattle.plexil.specs.Order.{Carry, putPlace, meet, visit}
+use Rattle.plexil.specs.Promises.{IsAdmitted, IsKept}
+use Rattle.plexil.proofs.ListLaws.{if-true, if-false, every-at, allBelow-not}
+use Rattle.plexil.proofs.RenewLaws.{renew-next}
+use Rattle.plexil.proofs.AnyOrder.{fits}
+use Rattle.plexil.proofs.NodeOrder.{walkTo, walkTo-next}
+
+module _ (p : Image) (s : State) (i : ℕ) {m : Move} (e : m ≡ moveOf p s i) where
+  pub writes-is : {w : Bool} → w ≡ every (isAssignment p i ∷ judges m ∷ []) → w ≡ writes p s i
+  unfolding writes
+  writes-is h = h ∙ ap (λ (x : Move). every (isAssignment p i ∷ judges x ∷ [])) e
+
+  pub sent-is : {x : ℕ} → x ≡ sentBy p s i m → x ≡ sent p s i
+  unfolding sent
+  sent-is h = h ∙ ap (sentBy p s i) e
+
+  pub applied : {b : Bool} → b ≡ not (stays m) → b ≡ not (stays (moveOf p s i))
+  applied h = h ∙ ap (λ (x : Move). not (stays x)) e
+
+  place-is : {r : Place} → r ≡ placeBy p s i m → r ≡ place p s i
+  unfolding place
+  place-is h = h ∙ ap (placeBy p s i) e
+
+  module _ {r : Place} (f : r ≡ placeBy p s i m) {w : Bool} (g : w ≡ every (isAssignment p i ∷ judges m ∷ [])) (c : Carry) {c₁ : Carry} (h : c₁ ≡ putPlace c i r) where
+    put-is : c₁ ≡ putPlace c i (place p s i)
+    put-is = h ∙ ap (putPlace c i) (place-is f)
+
+    pub visit-writes : w ≡ true → {v t : ℕ} {x : Cell} {c₂ : Carry} → v ≡ what p i → t ≡ priority p i + 1 → x ≡ written p s i → c₂ ≡ meet c₁ v t i x → c₂ ≡ visit p s c i
+    unfolding visit
+    visit-writes b {v} {t} {x} a d k q =
+        q ∙ (ap (λ (y : Carry). meet y v t i x) put-is
+        ∙ (ap (λ (y : ℕ). meet (putPlace c i (place p s i)) y t i x) a
+        ∙ (ap (λ (y : ℕ). meet (putPlace c i (place p s i)) (what p i) y i x) d
+        ∙ (ap (meet (putPlace c i (place p s i)) (what p i) (priority p i + 1) i) k ∙ sym (if-true _ _ _ (sym (writes-is g) ∙ b))))))
+
+    pub visit-passes : w ≡ false → c₁ ≡ visit p s c i
+    unfolding visit
+    visit-passes b = put-is ∙ sym (if-false _ _ _ (sym (writes-is g) ∙ b))
+
+  -- a writer is an assignment, so its target is a variable
+  pub target-below : IsAdmitted p → IsKept p s → i < nodeCount p → {w : Bool} → w ≡ every (isAssignment p i ∷ judges m ∷ []) → w ≡ true → {v : ℕ} → v ≡ what p i → v < 128
+  target-below a k b g t q = rw q (fits p s a k .targets i b (every-at _ 0 (sym g ∙ t)))
+
+pub written-is : (p : Image) (s : State) (i : ℕ) {e : ℕ} {v : Worked} {x : Cell} → e ≡ valueField p i → v ≡ valueOf p s e → x ≡ encode v → x ≡ written p s i
+unfolding written
+written-is p s i a b d = d ∙ ap encode (b ∙ ap (valueOf p s) a)
+
+-- ---- the walk
+pub allBelow-or : (n : ℕ) (f : ℕ → Bool) (a b : Bool) → a ≡ not (allBelow n f) → b ≡ not (f n) → (a || b) ≡ not (allBelow (n + 1) f)
+unfolding allBelow
+allBelow-or n f a b h g = rw (h, g, add-one) (by (f n) refl)
+  where
+    by : (t : Bool) → f n ≡ t → (not (allBelow n f) || not (f n)) ≡ not (allBelow (suc n) f)
+    by true e = rw (e, allBelow) (or-false (not (allBelow n f)))
+      where
+        or-false : (x : Bool) → (x || false) ≡ x
+        or-false true = refl
+        or-false false = refl
+    by false e = rw (e, allBelow) (or-true (not (allBelow n f)))
+      where
+        or-true : (x : Bool) → (x || true) ≡ true
+        or-true true = refl
+        or-true false = refl
+
+pub sent-next : (n : ℕ) (f : ℕ → ℕ) (l old l₂ : List ℕ) → n < length old → l ≡ renew n f old → l₂ ≡ set l n (f n) → l₂ ≡ renew (n + 1) f old
+sent-next n f l old l₂ b e h = h ∙ (ap (λ (m : List ℕ). set m n (f n)) e ∙ renew-next n f old 0 b)
+
+pub walk-next : (p : Image) (s : State) (c₀ : Carry) (n : ℕ) {c c₂ : Carry} → c ≡ walkTo p s c₀ n → c₂ ≡ visit p s c n → c₂ ≡ walkTo p s c₀ (n + 1)
+walk-next p s c₀ n e h = h ∙ (ap (λ (x : Carry). visit p s x n) e ∙ sym (walkTo-next p s c₀ n))
+
+-- after the last node
+pub walk-end : (p : Image) (s : State) (c₀ : Carry) (sent₀ : List ℕ) (i : ℕ) {moved : Bool} {c : Carry} {l : List ℕ} → i ≡ nodeCount p
+    → moved ≡ not (allBelow i (λ (k : ℕ). stays (moveOf p s k))) → c ≡ walkTo p s c₀ i → l ≡ renew i (sent p s) sent₀
+    → (moved ≡ not (allBelow (nodeCount p) (λ (k : ℕ). stays (moveOf p s k)))) × (c ≡ walkTo p s c₀ (nodeCount p)) × (l ≡ renew (nodeCount p) (sent p s) sent₀)
+walk-end p s c₀ sent₀ i e a b d =
+    (a ∙ ap (λ (n : ℕ). not (allBelow n (λ (k : ℕ). stays (moveOf p s k)))) e, b ∙ ap (walkTo p s c₀) e, d ∙ ap (λ (n : ℕ). renew n (sent p s) sent₀) e)
+
+-- ---- a pass in which every node has stayed
+module _ (p : Image) (s : State) (i : ℕ) {m : Move} (e : m ≡ moveOf p s i) {b : Bool} (h : b ≡ not (stays m)) where
+  stay-is : stays (moveOf p s i) ≡ not b
+  stay-is = sym (ap not (h ∙ ap (λ (x : Move). not (stays x)) e) ∙ not-not (stays (moveOf p s i)))
+    where
+      not-not : (x : Bool) → not (not x) ≡ x
+      not-not true = refl
+      not-not false = refl
+
+  pub none-below : b ≡ true → i < nodeCount p → false ≡ allBelow (nodeCount p) (λ (k : ℕ). stays (moveOf p s k))
+  none-below t l = sym (allBelow-not (nodeCount p) _ i l (stay-is ∙ ap not t))
+
+  pub stay-below : b ≡ false → allBelow i (λ (k : ℕ). stays (moveOf p s k)) ≡ true → allBelow (i + 1) (λ (k : ℕ). stays (moveOf p s k)) ≡ true
+  unfolding allBelow
+  stay-below t a = rw (add-one, stay-is ∙ ap not t, allBelow) a
+
+pub all-below : (p : Image) (s : State) {i : ℕ} → i ≡ nodeCount p → allBelow i (λ (k : ℕ). stays (moveOf p s k)) ≡ true → true ≡ allBelow (nodeCount p) (λ (k : ℕ). stays (moveOf p s k))
+all-below p s e a = sym (ap (λ (n : ℕ). allBelow n (λ (k : ℕ). stays (moveOf p s k))) (sym e) ∙ a)

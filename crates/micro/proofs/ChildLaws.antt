@@ -1,0 +1,78 @@
+-- The pass over the children: after j nodes a row of flags has the answer of the nodes below j.
+use Prim.Native.Nat.{ℕ, zero, suc, _+_, _<_, _≤_}
+use mathlib.Core.Path.{_≡_, refl, sym, ap, _∙_}
+use mathlib.Core.Logic.{⊎-elim}
+use mathlib.Core.Bool.{Bool, true, false, not, _&&_}
+use mathlib.Core.List.{List, [], _∷_}
+use native.Mathlib.Omega.{arith}
+use native.Mathlib.Numerals.{add-one}
+use lib.Dec.{eqb}
+use lib.ListN.{length, getD, set, replicate, length-set, length-replicate, getD-replicate}
+use lib.Seq.{getD-set-same, getD-set-other}
+use borrow.Author.Tests.{eq-eqb, ne-eqb}
+use Rattle.plexil.specs.declared.State.{State}
+use Rattle.plexil.specs.declared.Status.{Status}
+use Rattle.plexil.specs.Lists.{some, allBelow}
+use Rattle.plexil.specs.Image.{Image, nodeCount, parent}
+use Rattle.plexil.specs.Places.{statusAt}
+use Rattle.plexil.specs.Atomic.{children}
+use Rattle.plexil.proofs.ListLaws.{tested, same?, some-stop, some-cons, some-one}
+
+-- node j is no child of i, or passes
+abbrev childPasses : Image → State → ℕ → (Status → Bool) → ℕ → Bool
+childPasses p s i f j = some (not (eqb (parent p j) i) ∷ f (statusAt s j) ∷ [])
+
+pub record Row (p : Image) (st : List ℕ) (f : Status → Bool) (j : ℕ) (l : List Bool) : Type 0 where
+  pub long : length l ≡ 256
+  pub right : (s : State) → s .status ≡ st → (i : ℕ) → i < 256 → getD l i false ≡ allBelow j (childPasses p s i f)
+
+allBelow-more : (n : ℕ) (f : ℕ → Bool) → allBelow (suc n) f ≡ (f n && allBelow n f)
+unfolding allBelow
+allBelow-more n f = by (f n) refl
+  where
+    by : (b : Bool) → f n ≡ b → allBelow (suc n) f ≡ (f n && allBelow n f)
+    by true e = rw (e, allBelow)
+    by false e = rw (e, allBelow)
+
+and-comm : (a b : Bool) → (a && b) ≡ (b && a)
+and-comm true true = refl
+and-comm true false = refl
+and-comm false true = refl
+and-comm false false = refl
+
+module _ (p : Image) (st : List ℕ) (f : Status → Bool) where
+  pub row-start : Row p st f 0 (replicate 256 true)
+  unfolding allBelow
+  row-start = record { long = length-replicate 256 true; right = λ s e i b. getD-replicate 256 i true false b }
+
+  -- a node that is no child of i changes nothing
+  other : (j i : ℕ) (s : State) → (parent p j ≡ i → ⊥) → allBelow (j + 1) (childPasses p s i f) ≡ allBelow j (childPasses p s i f)
+  other j i s h =
+      rw (add-one, allBelow-more) (ap (λ (b : Bool). b && allBelow j (childPasses p s i f)) (some-stop _ _ (ap not (ne-eqb _ _ h))))
+
+  own : (j i : ℕ) (s : State) → parent p j ≡ i → allBelow (j + 1) (childPasses p s i f) ≡ (allBelow j (childPasses p s i f) && f (statusAt s j))
+  own j i s h =
+      rw (add-one, allBelow-more)
+      (ap (λ (b : Bool). b && allBelow j (childPasses p s i f)) (some-cons _ _ (ap not (eq-eqb _ _ h)) ∙ some-one _) ∙ and-comm (f (statusAt s j)) (allBelow j (childPasses p s i f)))
+
+  pub row-skip : (j : ℕ) (l : List Bool) {q : ℕ} → q ≡ parent p j → 256 ≤ q → Row p st f j l → Row p st f (j + 1) l
+  row-skip j l {q} e h r =
+      record { long = r .long; right = λ s w i b. r .right s w i b ∙ sym (other j i s (λ g. omega arith)) }
+
+  pub row-set : (j : ℕ) (l : List Bool) {q : ℕ} {a : Status} {x : Bool} → q ≡ parent p j → q < 256 → ((s : State) → s .status ≡ st → a ≡ statusAt s j) → x ≡ f a
+      → Row p st f j l → Row p st f (j + 1) (set l q (getD l q false && x))
+  row-set j l {q} {a} {x} e h w k r = record {
+    long = length-set l q _ ∙ r .long;
+    right = λ s g i b.
+        ⊎-elim
+        (λ (o : i ≡ q).
+        rw (o, getD-set-same l q (getD l q false && x) false (rw (r .long) h), own j q s (sym e), ← r .right s g q h)
+        (ap (λ (y : Bool). getD l q false && y) (k ∙ ap f (w s g))))
+        (λ o. getD-set-other l q i _ false o ∙ (r .right s g i b ∙ sym (other j i s (λ y. o (sym y ∙ sym e)))))
+        (same? i q);
+  }
+
+  -- after the last node
+  pub row-end : (l : List Bool) {k : ℕ} → k ≡ nodeCount p → Row p st f k l → (s : State) → s .status ≡ st → (i : ℕ) → i < 256 → getD l i false ≡ children p s i f
+  unfolding children
+  row-end l e r s g i b = r .right s g i b ∙ ap (λ (k : ℕ). allBelow k (childPasses p s i f)) e

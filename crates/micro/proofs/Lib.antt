@@ -1,0 +1,5 @@
+pub mod ChildLaws
+pub mod WordLaws
+pub mod RuleLaws
+pub mod CarryLaws
+pub mod StepLaws
