@@ -1,5 +1,8 @@
 pub mod ListLaws
 pub mod RenewLaws
+pub mod PutLaws
+pub mod RunCourse
+pub mod ReplyLaws
 pub mod TestLaws
 pub mod Statuses
 pub mod KnownEnds
@@ -29,3 +32,14 @@ pub mod FreshKept
 pub mod Accepted
 pub mod EventKept
 pub mod StepKept
+pub mod SizesKept
+pub mod Sessions
+pub mod NeverState
+pub mod Replies
+pub mod Synchrony
+pub mod MicroRelation
+pub mod Framework
+pub mod Stuttering
+pub mod RunQuiescence
+pub mod QuiescenceRun
+pub mod MacroCalls

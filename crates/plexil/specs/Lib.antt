@@ -15,5 +15,8 @@ pub mod Form
 pub mod Macro
 pub mod Replies
 pub mod Promises
+pub mod ReplyPromises
+pub mod Framework
+pub mod FrameworkPromises
 pub mod Assemble
 pub mod KnownEnds

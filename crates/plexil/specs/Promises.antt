@@ -1,7 +1,7 @@
 -- Demand 3 in statements: what holds of an admitted plan, in every session and from every kept state that passes 30. proofs/ proves each.
 use Prim.Native.Nat.{ℕ, zero, suc, _+_, _<_, _≤_}
 use mathlib.Core.Path.{_≡_}
-use mathlib.Core.Logic.{_⊎_}
+use mathlib.Core.Logic.{_⊎_, _≢_}
 use mathlib.Core.Bool.{Bool, true, false}
 use mathlib.Core.List.{List}
 use lib.ListN.{length}
@@ -20,7 +20,7 @@ use Rattle.plexil.specs.Micro.{writes, written, outcomeAfter, failureAft
 use Rattle.plexil.specs.Order.{carryNothing, walk, settle, NamesOnce}
 use Rattle.plexil.specs.Form.{allowed, goodState, goodKept}
 use Rattle.plexil.specs.Macro.{eventAnswer, entered, entryCount}
-use Rattle.plexil.specs.Replies.{runReply, takeReply}
+use Rattle.plexil.specs.Replies.{runNumber, takeNumber, runReply, takeReply}
 
 -- a plan that the check admits
 abbrev pub IsAdmitted : Image → Type 0
@@ -51,6 +51,28 @@ pub data Session (p : Image) : State → Card → Type 0 where
 -- 1. Sessions: refusal 30 never comes
 abbrev pub SessionsKept : Type 0
 SessionsKept = (p : Image) (s : State) (c : Card) → Session p s c → goodKept p s c ≡ true
+
+-- no run and no taking of an event answers 30 in a session
+abbrev pub NeverState : Type 0
+NeverState =
+    (p : Image) (s : State) (c : Card) → Session p s c
+    → ((budget : ℕ) (list : List ℕ) (start : ℕ) → runNumber (runReply p s c budget list start .ran .answer) .number ≢ 30)
+    × ((event : List ℕ) → takeNumber (takeReply p s c event .answer) .number ≢ 30)
+
+-- a state of its lengths and a card that pass 30
+pub record Passes (p : Image) (s : State) (c : Card) : Type 0 where
+  pub kept : goodKept p s c ≡ true
+  pub sized : Sized s
+
+-- "from every kept state that passes 30" a run and the taking of an event lead to such a state again, whatever they answer
+abbrev pub RunKeeps : Type 0
+RunKeeps =
+    (p : Image) (s : State) (c : Card) → IsAdmitted p → Passes p s c → (budget : ℕ) (list : List ℕ) (start : ℕ)
+    → Passes p (runReply p s c budget list start .ran .state) (runReply p s c budget list start .ran .card)
+
+abbrev pub TakeKeeps : Type 0
+TakeKeeps =
+    (p : Image) (s : State) (c : Card) → IsAdmitted p → Passes p s c → (event : List ℕ) → Passes p (takeReply p s c event .state) (takeReply p s c event .card)
 
 -- the three ways on from a kept state
 abbrev pub FreshKept : Type 0

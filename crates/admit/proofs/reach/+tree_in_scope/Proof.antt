@@ -8,6 +8,7 @@ use Rattle.admit.proofs.Laws.{one-fails, passes, last}
 use Rattle.admit.proofs.Scope.{tree-none, tree-variable, tree-leaf, tree-no-operator, tree-not, tree-binary}
 use Rattle.admit.proofs.reach.tree_in_scope.Reads as tree
 use Rattle.admit.proofs.reach.tree_in_scope.Kinds as kinds
+use Rattle.admit.proofs.reach.+tree_in_scope.Lts-tree_in_scope as lts
 use Rattle.admit.proofs.reach.in_scope.Reads as in-scope
 use Rattle.image.proofs.operand_a.Reads as operand-a
 use Rattle.image.proofs.operand_b.Reads as operand-b

@@ -12,6 +12,14 @@ use Rattle.evaluate.proofs.Laws.{value-none, value-leaf, value-not, val
 use Rattle.evaluate.proofs.entries.entry.Reads as entry
 use Rattle.evaluate.proofs.entries.entry.Kinds as entry-kinds
 use Rattle.evaluate.proofs.entries.+entry.Lts-entry as entry-lts
+use Rattle.evaluate.proofs.binary.join.Reads as join-reads
+use Rattle.evaluate.proofs.leaves.cell_value.Reads as cell-value-reads
+use Rattle.evaluate.proofs.leaves.code_is.Reads as code-is-reads
+use Rattle.evaluate.proofs.leaves.constant.Reads as constant-reads
+use Rattle.image.proofs.byte_at.Reads as byte-at-reads
+use Rattle.image.proofs.le16.Reads as le16-reads
+use Rattle.image.proofs.le64.Reads as le64-reads
+use Rattle.values.proofs.not_of.Reads as not-of-reads
 use Rattle.evaluate.proofs.entries.+entry.{statement}
 use Rattle.evaluate.proofs.entries.+entry.Tie.{close}
 

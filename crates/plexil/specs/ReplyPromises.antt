@@ -1,0 +1,131 @@
+-- Promise 7 in statements: each call permits one reply, a refusal but 32 changes nothing, a run's count is its number of micro steps.
+use Prim.Native.Nat.{ℕ, zero, suc, _+_, _<_, _≤_}
+use mathlib.Core.Path.{_≡_}
+use mathlib.Core.Logic.{_⊎_, _≢_, _↔_}
+use mathlib.Core.Bool.{true, false}
+use mathlib.Core.List.{List, [], _++_}
+use lib.ListN.{length, getD}
+use Rattle.plexil.specs.declared.State.{State}
+use Rattle.plexil.specs.declared.Card.{Card}
+use Rattle.plexil.specs.declared.Checked.{Checked}
+use Rattle.plexil.specs.declared.Started.{Started}
+use Rattle.plexil.specs.declared.RunAnswer.the-variants as ran
+use Rattle.plexil.specs.declared.Ran.{Ran}
+use Rattle.plexil.specs.declared.Taken.{Taken}
+use Rattle.plexil.specs.Lists.{put}
+use Rattle.plexil.specs.Image.{Image}
+use Rattle.plexil.specs.Places.{Running, Quiet}
+use Rattle.plexil.specs.Micro.{step, words, quiet}
+use Rattle.plexil.specs.Replies.{verdictNumber, runNumber, takeNumber, checkReply, freshReply, RunReply, runReply, takeReply}
+
+-- the state after k micro steps from s
+unfoldable pub iterate : Image → ℕ → State → State
+iterate p zero s = s
+iterate p (suc k) s = iterate p k (step p s)
+
+-- the words of these k steps, in order
+unfoldable pub wordsOf : Image → ℕ → State → List ℕ
+wordsOf p zero s = []
+wordsOf p (suc k) s = words p s ++ wordsOf p k (step p s)
+
+-- ---- "Any two replies it permits are proved equal". What each contract permits: the reply, and what was lent at exit
+abbrev pub CheckPermits : Image → Checked → Type 0
+CheckPermits p r = r ≡ checkReply p
+
+abbrev pub FreshPermits : Image → State → Card → Started → Type 0
+FreshPermits p s c r = r ≡ freshReply p s c
+
+pub record RunPermits (p : Image) (s : State) (c : Card) (budget : ℕ) (list : List ℕ) (start : ℕ) (r : Ran) (exit : List ℕ) : Type 0 where
+  pub reply : r ≡ runReply p s c budget list start .ran
+  pub lent : exit ≡ runReply p s c budget list start .list
+
+abbrev pub TakePermits : Image → State → Card → List ℕ → Taken → Type 0
+TakePermits p s c b r = r ≡ takeReply p s c b
+
+abbrev pub OneCheck : Type 0
+OneCheck = (p : Image) (r q : Checked) → CheckPermits p r → CheckPermits p q → r ≡ q
+
+abbrev pub OneFresh : Type 0
+OneFresh = (p : Image) (s : State) (c : Card) (r q : Started) → FreshPermits p s c r → FreshPermits p s c q → r ≡ q
+
+abbrev pub OneRun : Type 0
+OneRun =
+    (p : Image) (s : State) (c : Card) (budget : ℕ) (list : List ℕ) (start : ℕ) (r q : Ran) (exit final : List ℕ)
+    → RunPermits p s c budget list start r exit → RunPermits p s c budget list start q final → (r ≡ q) × (exit ≡ final)
+
+abbrev pub OneTake : Type 0
+OneTake = (p : Image) (s : State) (c : Card) (b : List ℕ) (r q : Taken) → TakePermits p s c b r → TakePermits p s c b q → r ≡ q
+
+-- ---- "Apart from 32 a refusal changes nothing"
+abbrev pub FreshRefusalKeeps : Type 0
+FreshRefusalKeeps =
+    (p : Image) (s : State) (c : Card) → verdictNumber (freshReply p s c .verdict) .number ≢ 0
+    → (freshReply p s c .state ≡ s) × (freshReply p s c .card ≡ c)
+
+abbrev pub TakeRefusalKeeps : Type 0
+TakeRefusalKeeps =
+    (p : Image) (s : State) (c : Card) (b : List ℕ) → takeNumber (takeReply p s c b .answer) .number ≢ 0
+    → (takeReply p s c b .state ≡ s) × (takeReply p s c b .card ≡ c)
+
+-- "refusals but 32 answer 0 and the given start place"
+pub record Unrun (s : State) (c : Card) (list : List ℕ) (start : ℕ) (r : RunReply) : Type 0 where
+  pub steps : r .ran .steps ≡ 0
+  pub next : r .ran .next ≡ start
+  pub state : r .ran .state ≡ s
+  pub card : r .ran .card ≡ c
+  pub lent : r .list ≡ list
+
+abbrev pub RunRefusalKeeps : Type 0
+RunRefusalKeeps =
+    (p : Image) (s : State) (c : Card) (budget : ℕ) (list : List ℕ) (start : ℕ)
+    → runNumber (runReply p s c budget list start .ran .answer) .number ≢ 0
+    → runNumber (runReply p s c budget list start .ran .answer) .number ≢ 32
+    → Unrun s c list start (runReply p s c budget list start)
+
+-- ---- the three ends of a run, each with what holds then. "The phase is Quiet exactly after the answer Quiet"
+pub data Ended (p : Image) (budget : ℕ) (list : List ℕ) (r : Ran) : Type 0 where
+  atQuiet : r .answer ≡ ran.Quiet → r .card .phase ≡ Quiet → quiet p (r .state) ≡ true → Ended p budget list r
+  spent : r .answer ≡ ran.Spent → r .card .phase ≡ Running → quiet p (r .state) ≡ false → r .steps ≡ budget → Ended p budget list r
+  noRoom : r .answer ≡ ran.NoRoom → r .card .phase ≡ Running → quiet p (r .state) ≡ false → r .steps < budget
+      → length list < r .next + length (words p (r .state)) → Ended p budget list r
+
+-- the course of a run that is not refused, or refused by 32: as many micro steps as it answers, in each of which a rule applied
+pub record Course (p : Image) (s : State) (c : Card) (budget : ℕ) (list : List ℕ) (start : ℕ) (r : RunReply) : Type 0 where
+  pub within : r .ran .steps ≤ budget
+  pub applied : (k : ℕ) → k < r .ran .steps → quiet p (iterate p k s) ≡ false
+  pub state : r .ran .state ≡ iterate p (r .ran .steps) s
+  pub next : r .ran .next ≡ start + length (wordsOf p (r .ran .steps) s)
+  pub room : r .ran .next ≤ length list
+  pub lent : r .list ≡ put list start (wordsOf p (r .ran .steps) s)
+  pub serial : r .ran .card .serial ≡ c .serial
+  pub ended : Ended p budget list (r .ran)
+
+abbrev pub HasRun : RunReply → Type 0
+HasRun r = (runNumber (r .ran .answer) .number ≡ 0) ⊎ (runNumber (r .ran .answer) .number ≡ 32)
+
+abbrev pub RunCourse : Type 0
+RunCourse =
+    (p : Image) (s : State) (c : Card) (budget : ℕ) (list : List ℕ) (start : ℕ) → HasRun (runReply p s c budget list start)
+    → Course p s c budget list start (runReply p s c budget list start)
+
+-- "Quiet means that no rule applies", "The phase is Quiet exactly after the answer Quiet"
+abbrev pub QuietExactly : Type 0
+QuietExactly =
+    (p : Image) (s : State) (c : Card) (budget : ℕ) (list : List ℕ) (start : ℕ) → HasRun (runReply p s c budget list start)
+    → ((runReply p s c budget list start .ran .answer ≡ ran.Quiet) ↔ (quiet p (runReply p s c budget list start .ran .state) ≡ true))
+    × ((runReply p s c budget list start .ran .card .phase ≡ Quiet) ↔ (runReply p s c budget list start .ran .answer ≡ ran.Quiet))
+
+-- "Words before the start place and beyond the last word written stay", after every reply
+abbrev pub WordsStay : Type 0
+WordsStay =
+    (p : Image) (s : State) (c : Card) (budget : ℕ) (list : List ℕ) (start : ℕ) (i : ℕ) → (i < start) ⊎ (runReply p s c budget list start .ran .next ≤ i)
+    → getD (runReply p s c budget list start .list) i 0 ≡ getD list i 0
+
+abbrev pub LengthStays : Type 0
+LengthStays =
+    (p : Image) (s : State) (c : Card) (budget : ℕ) (list : List ℕ) (start : ℕ) → length (runReply p s c budget list start .list) ≡ length list
+
+-- opens every definition of this file
+unfoldable pub opened : Unit {0}
+unfolding iterate wordsOf
+opened = tt
