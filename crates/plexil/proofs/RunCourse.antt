@@ -22,11 +22,11 @@ unfolding runFrom
 run-quiet p zero done s l next q = rw (q, runFrom)
 run-quiet p (suc budget) done s l next q = rw (q, runFrom)
 
-run-spent : (p : Image) (done : ℕ) (s : State) (l : List ℕ) (next : ℕ) → quiet p s ≡ false → runFrom p 0 done s l next ≡ stop spent done next s l
+pub run-spent : (p : Image) (done : ℕ) (s : State) (l : List ℕ) (next : ℕ) → quiet p s ≡ false → runFrom p 0 done s l next ≡ stop spent done next s l
 unfolding runFrom
 run-spent p done s l next q = rw (q, runFrom)
 
-run-no-room : (p : Image) (budget done : ℕ) (s : State) (l : List ℕ) (next : ℕ) → quiet p s ≡ false → fits p s l next ≡ false
+pub run-no-room : (p : Image) (budget done : ℕ) (s : State) (l : List ℕ) (next : ℕ) → quiet p s ≡ false → fits p s l next ≡ false
     → runFrom p (suc budget) done s l next ≡ stop noRoom done next s l
 unfolding runFrom
 run-no-room p budget done s l next q f = rw (q, f, runFrom)

@@ -1,79 +1,9 @@
 -- "Small plans with known ends": K1 to K10 as one table, each case played through the whole replies.
-use Prim.Native.Nat.{ℕ, zero, suc, _+_, _*_}
-use mathlib.Core.Bool.{Bool, true, false}
-use mathlib.Core.List.{List, [], _∷_, _++_}
-use lib.ListN.{getD, replicate, take}
-use lib.Dec.{eqb}
-use Rattle.plexil.specs.declared.State.{State}
-use Rattle.plexil.specs.declared.Card.{Card}
-use Rattle.plexil.specs.declared.RunAnswer.{RunAnswer}
+use Prim.Native.Nat.{ℕ}
+use mathlib.Core.List.{List, [], _∷_}
 use Rattle.plexil.specs.declared.RunAnswer.the-variants as ran
-use Rattle.plexil.specs.Lists.{every}
-use Rattle.plexil.specs.Places.{varCell, freshState, freshCard}
-use Rattle.plexil.specs.Check.{ruleNumber}
-use Rattle.plexil.specs.Replies.{verdictNumber, takeNumber, checkReply, freshReply, runReply, takeReply}
 use Rattle.plexil.specs.Assemble.{no, plain, only, aList, aCommand, anAssignment, expr, const, variable, lookup, plan, entry, event}
-
--- what is done with a plan, and what is seen then
-pub data Turn : Type 0 where
-  -- a run of budget 100 answers this, after so many steps, with these words
-  runs : RunAnswer → ℕ → List ℕ → Turn
-  -- an event is taken, with this refusal number and entry
-  takes : List ℕ → ℕ → ℕ → Turn
-  -- a variable's tag and bits; a node's status, outcome and failure
-  holds : ℕ → ℕ → ℕ → Turn
-  stands : ℕ → ℕ → ℕ → ℕ → Turn
-
-pub record Case : Type 0 where
-  pub image : List ℕ
-  pub turns : List Turn
-
--- a number for each answer of a run
-unfoldable pub answerCode : RunAnswer → ℕ
-answerCode (ran.Refused r i) = ruleNumber r
-answerCode ran.State = 30
-answerCode ran.Place = 31
-answerCode ran.NoRoom = 32
-answerCode ran.Spent = 33
-answerCode ran.Quiet = 34
-
-unfoldable pub sameWords : List ℕ → List ℕ → Bool
-sameWords [] [] = true
-sameWords [] (y ∷ ys) = false
-sameWords (x ∷ xs) [] = false
-sameWords (x ∷ xs) (y ∷ ys) = every (eqb x y ∷ sameWords xs ys ∷ [])
-
-abbrev pub room : List ℕ
-room = replicate 16 0
-
--- the turns pass one after the other
-unfoldable pub plays : List ℕ → State → Card → List Turn → Bool
-plays p s c [] = true
-plays p s c (runs a n ws ∷ ts) =
-    let r = runReply p s c 100 room 0 in
-    elim (every (eqb (answerCode (r .ran .answer)) (answerCode a) ∷ eqb (r .ran .steps) n ∷ sameWords (take (r .ran .next) (r .list)) ws ∷ [])) [
-      | true ↦ plays p (r .ran .state) (r .ran .card) ts
-      | false ↦ false
-    ]
-plays p s c (takes b n k ∷ ts) =
-    let r = takeReply p s c b in
-    elim (every (eqb (takeNumber (r .answer) .number) n ∷ eqb (takeNumber (r .answer) .record′) k ∷ [])) [ true ↦ plays p (r .state) (r .card) ts | false ↦ false ]
-plays p s c (holds v t w ∷ ts) = elim (every (eqb (varCell s v .tag) t ∷ eqb (varCell s v .bits) w ∷ [])) [ true ↦ plays p s c ts | false ↦ false ]
-plays p s c (stands i a o f ∷ ts) =
-    elim (every (eqb (getD (s .status) i 0) a ∷ eqb (getD (s .outcome) i 0) o ∷ eqb (getD (s .failure) i 0) f ∷ [])) [ true ↦ plays p s c ts | false ↦ false ]
-
--- the check admits it, and the turns follow on the fresh start
-unfoldable pub passes : Case → Bool
-passes k =
-    let r = freshReply (k .image) (freshState []) freshCard in
-    elim (every (eqb (verdictNumber (checkReply (k .image) .verdict) .number) 0 ∷ eqb (verdictNumber (r .verdict) .number) 0 ∷ [])) [
-      | true ↦ plays (k .image) (r .state) (r .card) (k .turns)
-      | false ↦ false
-    ]
-
-unfoldable pub allPass : List Case → Bool
-allPass [] = true
-allPass (k ∷ ks) = elim (passes k) [ true ↦ allPass ks | false ↦ false ]
+use Rattle.plexil.specs.Play.{runs, takes, holds, stands, Case}
 
 -- one assignment of variable 0, of kind k, by entry e
 unfoldable pub lone : ℕ → List (List ℕ) → ℕ → List ℕ
@@ -150,5 +80,5 @@ knownEnds = K1 ∷ K2 ∷ K3 ∷ K4 ∷ K5 ∷ K6 ∷ K7 ∷ K8 ∷ K9 ∷ K10a 
 
 -- opens every definition of this file
 unfoldable pub opened : Unit {0}
-unfolding answerCode sameWords plays passes allPass lone K1 contest K2 K3 K4 K5 counting K6 K7 K8 K9 K10a K10b knownEnds
+unfolding lone K1 contest K2 K3 K4 K5 counting K6 K7 K8 K9 K10a K10b knownEnds
 opened = tt

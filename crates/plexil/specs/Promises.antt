@@ -1,19 +1,18 @@
 -- Demand 3 in statements: what holds of an admitted plan, in every session and from every kept state that passes 30. proofs/ proves each.
-use Prim.Native.Nat.{ℕ, zero, suc, _+_, _<_, _≤_}
+use Prim.Native.Nat.{ℕ, suc, _<_}
 use mathlib.Core.Path.{_≡_}
-use mathlib.Core.Logic.{_⊎_, _≢_}
-use mathlib.Core.Bool.{Bool, true, false}
+use mathlib.Core.Logic.{_≢_}
+use mathlib.Core.Bool.{true}
 use mathlib.Core.List.{List}
 use lib.ListN.{length}
-use Rattle.plexil.specs.declared.Worked.{Worked}
 use Rattle.plexil.specs.declared.Worked.the-variants.{Clash}
 use Rattle.plexil.specs.declared.State.{State}
 use Rattle.plexil.specs.declared.Card.{Card}
 use Rattle.plexil.specs.declared.Verdict.the-variants.{Admitted}
 use Rattle.plexil.specs.declared.TakeAnswer.the-variants.{Accepted}
-use Rattle.plexil.specs.Image.{Image, nodeCount, exprCount, varCount, priority, what, owner, operandA, operandB}
+use Rattle.plexil.specs.Image.{Image, nodeCount, exprCount, priority, what, owner, operandA, operandB}
 use Rattle.plexil.specs.Places.{statusAt, varCell, initial, freshState, freshCard, Failure, WriteLost}
-use Rattle.plexil.specs.Expressions.{Operator, notOp, binary, Binary, operatorAt, evalOf}
+use Rattle.plexil.specs.Expressions.{notOp, binary, Binary, operatorAt, evalOf}
 use Rattle.plexil.specs.Check.{verdict}
 use Rattle.plexil.specs.Atomic.{parentStatus, moveOf}
 use Rattle.plexil.specs.Micro.{writes, written, outcomeAfter, failureAfter, entersWaiting, varAfter, step}

@@ -21,7 +21,7 @@ use Rattle.plexil.specs.Replies.{endAnswer, phaseAfter, hasRun}
 use Rattle.plexil.specs.Promises.{IsAdmitted, IsKept}
 use Rattle.plexil.proofs.ListLaws.{if-true, if-false}
 use Rattle.plexil.proofs.PutLaws.{length-put}
-use Rattle.plexil.proofs.RunCourse.{run-quiet, run-on}
+use Rattle.plexil.proofs.RunCourse.{run-quiet, run-spent, run-no-room, run-on}
 use Rattle.plexil.proofs.StepKept.{step-kept}
 use Rattle.micro.specs.declared.steps.Stepped.{Stepped}
 use Rattle.micro.specs.declared.steps.StepEnd.{StepEnd}
@@ -118,15 +118,6 @@ module _ (l : List ℕ) (k : ℕ) (h : k ≤ length l) where
       by false e = e ∙ sym (lt-leb (k + length (words p s)) (length l) (omega (arith, leb-false (length (words p s)) (length (drop k l)) e, length-drop k l)))
 
 -- ---- what is left of the run
-run-over : (p : Image) (done : ℕ) (s : State) (l : List ℕ) (next : ℕ) → quiet p s ≡ false → runFrom p 0 done s l next ≡ stop spent done next s l
-unfolding runFrom
-run-over p done s l next q = rw (q, runFrom)
-
-run-crowded : (p : Image) (budget done : ℕ) (s : State) (l : List ℕ) (next : ℕ) → quiet p s ≡ false → fits p s l next ≡ false
-    → runFrom p (suc budget) done s l next ≡ stop noRoom done next s l
-unfolding runFrom
-run-crowded p budget done s l next q f = rw (q, f, runFrom)
-
 fits-is : (p : Image) (s : State) (l : List ℕ) (k : ℕ) → fits p s l k ≡ leb (k + length (words p s)) (length l)
 unfolding fits
 fits-is p s l k = refl
@@ -151,14 +142,14 @@ module _ (p : Image) (s : State) (budget : ℕ) (l₀ : List ℕ) (start : ℕ) 
     going-quiet q = g .rest ∙ run-quiet p (budget - steps) steps t l next q
 
     pub going-spent : steps ≡ budget → quiet p t ≡ false → run p s budget l₀ start ≡ stop spent steps next t l
-    going-spent e q = let z : budget - steps ≡ 0 = omega arith in g .rest ∙ (ap (λ (n : ℕ). runFrom p n steps t l next) z ∙ run-over p steps t l next q)
+    going-spent e q = let z : budget - steps ≡ 0 = omega arith in g .rest ∙ (ap (λ (n : ℕ). runFrom p n steps t l next) z ∙ run-spent p steps t l next q)
 
     left : steps < budget → budget - steps ≡ suc (budget - (steps + 1))
     left h = omega arith
 
     pub going-crowded : steps < budget → quiet p t ≡ false → leb (length (words p t)) (length (lent l next)) ≡ false → run p s budget l₀ start ≡ stop noRoom steps next t l
     going-crowded h q f =
-        g .rest ∙ (ap (λ (n : ℕ). runFrom p n steps t l next) (left h) ∙ run-crowded p (budget - (steps + 1)) steps t l next q (sym (part-fits l next (g .room) p t) ∙ f))
+        g .rest ∙ (ap (λ (n : ℕ). runFrom p n steps t l next) (left h) ∙ run-no-room p (budget - (steps + 1)) steps t l next q (sym (part-fits l next (g .room) p t) ∙ f))
 
     pub going-on : IsAdmitted p → steps < budget → quiet p t ≡ false → leb (length (words p t)) (length (lent l next)) ≡ true
         → {n : ℕ} {t₂ : State} {part : List ℕ} → n ≡ length (words p t) → t₂ ≡ step p t → part ≡ put (lent l next) 0 (words p t)
