@@ -1,0 +1,29 @@
+//! Two executives on the same random calls, compared byte for byte: state, card, list, counts and report.
+
+mod damage;
+mod difference;
+mod draft;
+mod events;
+mod misses;
+mod pair;
+mod plans;
+mod random;
+mod states;
+mod tally;
+mod tour;
+
+pub use difference::Difference;
+pub use random::Random;
+pub use tally::Tally;
+pub use tour::tour;
+
+/// The executive under test.
+#[cfg(feature = "linked")]
+pub type Subject = samblokur_sys::Linked;
+
+/// The executive under test.
+#[cfg(not(feature = "linked"))]
+pub type Subject = plain::Plain;
+
+/// The executive that it is held against.
+pub type Model = plain::Plain;

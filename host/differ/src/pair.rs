@@ -1,0 +1,106 @@
+//! One call made to two executives on equal memory; all of it is compared afterwards.
+
+use crate::difference::{Difference, answer, counts};
+use crate::tally::Tally;
+use samblokur_sys::{Card, Counts, Executive, Report, State};
+use std::marker::PhantomData;
+
+/// What a report and counts hold before a call, so that a field left unwritten shows.
+const STALE: Report = Report { number: 901, record: 902, ending: 903, steps: 904, next: 905 };
+const STALE_COUNTS: Counts = Counts { nodes: 911, exprs: 912, vars: 913, looks: 914 };
+
+/// A state, card and list between calls.
+#[derive(Clone, Debug, PartialEq)]
+pub struct Memory {
+    pub state: State,
+    pub card: Card,
+    pub list: Vec<u32>,
+}
+
+/// The pair, and what it met.
+pub struct Pair<S, M> {
+    pub tally: Tally,
+    executives: PhantomData<(S, M)>,
+}
+
+impl<S: Executive, M: Executive> Pair<S, M> {
+    pub fn new() -> Pair<S, M> {
+        Pair { tally: Tally::default(), executives: PhantomData }
+    }
+
+    pub fn check(&mut self, image: &[u8]) -> Result<Report, Difference> {
+        let (mut found, mut report) = ([STALE_COUNTS; 2], [STALE; 2]);
+        let subject = S::check(image, &mut found[0], &mut report[0]);
+        let model = M::check(image, &mut found[1], &mut report[1]);
+        self.tally.answer(&report[1]);
+        if subject == model && report[0] == report[1] && found[0] == found[1] {
+            return Ok(report[1]);
+        }
+        let told = |number, i: usize| [answer(number, &report[i]), counts(&found[i])].into_iter().flatten();
+        let (subject, model) = (told(subject, 0).collect(), told(model, 1).collect());
+        Err(Difference::of("check", subject, model).given("image", image))
+    }
+
+    pub fn fresh(&mut self, image: &[u8], memory: &mut Memory) -> Result<Report, Difference> {
+        self.both("fresh", image, memory, |memory, report, subject| {
+            let call = if subject { S::fresh } else { M::fresh };
+            call(image, &mut memory.state, &mut memory.card, report)
+        })
+    }
+
+    pub fn take(&mut self, image: &[u8], memory: &mut Memory, event: &[u8]) -> Result<Report, Difference> {
+        let taken = self.both("take", image, memory, |memory, report, subject| {
+            let call = if subject { S::take } else { M::take };
+            call(image, &mut memory.state, &mut memory.card, event, report)
+        });
+        taken.map_err(|difference| difference.given("event", event))
+    }
+
+    pub fn run(
+        &mut self,
+        image: &[u8],
+        memory: &mut Memory,
+        budget: u16,
+        start: usize,
+    ) -> Result<Report, Difference> {
+        let name = format!("run with budget {budget} from place {start}");
+        let report = self.both(&name, image, memory, |memory, report, subject| {
+            let call = if subject { S::run } else { M::run };
+            let Memory { state, card, list } = memory;
+            call(image, state, card, budget, list, start, report)
+        })?;
+        if report.number == 0 {
+            let nodes = u16::from_le_bytes([image[2], image[3]]);
+            self.tally.run(usize::from(nodes), &memory.state, &report);
+        }
+        Ok(report)
+    }
+
+    /// Makes a call twice on equal memory. "Apart from 32 a refusal changes nothing."
+    fn both(
+        &mut self,
+        name: &str,
+        image: &[u8],
+        memory: &mut Memory,
+        call: impl Fn(&mut Memory, &mut Report, bool) -> u32,
+    ) -> Result<Report, Difference> {
+        let before = memory.clone();
+        let (mut other, mut report) = (before.clone(), [STALE; 2]);
+        let subject = call(&mut other, &mut report[0], true);
+        let model = call(memory, &mut report[1], false);
+        self.tally.answer(&report[1]);
+        if model != 0 && model != 32 && *memory != before {
+            return Err(Difference::broken("a refusal changes something")
+                .given("image", image)
+                .before(&before));
+        }
+        if subject == model && report[0] == report[1] && other == *memory {
+            return Ok(report[1]);
+        }
+        let told = |number, i: usize, memory: &Memory| {
+            [answer(number, &report[i]), memory.places()].into_iter().flatten().collect()
+        };
+        let difference = Difference::of(name, told(subject, 0, &other), told(model, 1, memory));
+        Err(difference.given("image", image).before(&before))
+    }
+}

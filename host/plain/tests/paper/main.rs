@@ -1,0 +1,6 @@
+//! The plain executive held against the paper.
+
+mod errors;
+mod known_ends;
+mod refusals;
+mod table;

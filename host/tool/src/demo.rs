@@ -1,0 +1,95 @@
+//! `demo`: the story of revisions B and AA.
+
+use crate::telling::upshot;
+use crate::trouble::Trouble;
+use samblokur::{NodeId, Plan, PlanBuilder, Refusal, Session, Value, VariableId};
+
+/// A revision: its letters, and its number from 1 for A over 26 for Z to 702 for ZZ.
+#[derive(Clone, Copy)]
+struct Revision {
+    letters: &'static str,
+    number: i64,
+}
+
+const A: Revision = Revision { letters: "A", number: 1 };
+const B: Revision = Revision { letters: "B", number: 2 };
+const AA: Revision = Revision { letters: "AA", number: 27 };
+
+/// Node 1 and node 2: what each marks, and with what priority.
+type Two = [(Revision, u16); 2];
+
+const OPENING: &str = "\
+The story of revisions B and AA
+
+An archive of building drawings keeps, for each drawing, which sheet is current.
+Sheets carry a revision: A, B, .. Z, then AA, AB and so on; a plan holds it as a
+number, 1 for A, 2 for B, 26 for Z, 27 for AA. So AA is the later sheet, although
+a dictionary would put it before B.
+
+Sheet A is current. Then two nodes of one plan mark a new sheet at once:
+
+    node 0: list, owns the current sheet
+    ├── node 1: current sheet := AA
+    └── node 2: current sheet := B
+
+A plan runs in micro steps. In each, every node looks at the state before the
+step, and all of them act together. Here both assignments end in the same micro
+step, so both want to write one variable at one time.
+";
+
+const OLD_TOWER: &str = "
+3. What the old tower did
+
+   The archive's old tower went through the file from top to bottom and let each
+   node write over the one before it. The lower node in the file won, whatever
+   its priority. That is node 2: sheet B became current, and the mark of AA was
+   gone without a word. With the two nodes exchanged in the file the same plan
+   would have made AA current.
+";
+
+pub fn demo(told: &mut String) -> Result<(), Trouble> {
+    let refused = Trouble::refused("the demo's plan");
+    told_through(told).map_err(refused)
+}
+
+fn told_through(told: &mut String) -> Result<(), Refusal> {
+    told.push_str(OPENING);
+    told.push_str("\n1. A higher priority on AA: node 1 has priority 5, node 2 has priority 3\n\n");
+    told.push_str(&marked([(AA, 5), (B, 3)])?);
+    told.push_str("   The later sheet is current, and the node that lost its write knows it.\n");
+    told.push_str("\n2. Equal priorities: both nodes have priority 5\n\n");
+    told.push_str(&marked([(AA, 5), (B, 5)])?);
+    told.push_str("   Nothing is decided by chance: the sheet stays, and both nodes know it.\n");
+    told.push_str(OLD_TOWER);
+    told.push_str("\n   Now the order in the file does not matter. The plan of 1. with its two nodes\n");
+    told.push_str("   exchanged, B with priority 3 above AA with priority 5:\n\n");
+    told.push_str(&marked([(B, 3), (AA, 5)])?);
+    Ok(())
+}
+
+/// Runs the plan and tells what came of it.
+fn marked(two: Two) -> Result<String, Refusal> {
+    let image = plan(two)?;
+    let mut session = Session::fresh(Plan::open(&image)?)?;
+    let run = session.run(100, &mut [], 0)?;
+    let sheet = session.variable(VariableId(0)).unwrap_or(Value::Unknown);
+    let letters = [A, B, AA].iter().find(|revision| sheet == Value::Int(revision.number));
+    let mut told = format!("   {} micro steps, then quiet.\n", run.steps);
+    told += &format!("   Current sheet: {} ({sheet})\n", letters.map_or("none", |revision| revision.letters));
+    for (node, (revision, _)) in (1..).map(NodeId).zip(two) {
+        told += &format!("   {node}, which marks {}: {}\n", revision.letters, upshot(&session, node));
+    }
+    Ok(told)
+}
+
+fn plan(two: Two) -> Result<Vec<u8>, Refusal> {
+    let mut plan = PlanBuilder::new();
+    let root = plan.add_list(None);
+    let sheet = plan.add_variable(root, A.number);
+    for (revision, priority) in two {
+        let number = plan.constant(revision.number);
+        let node = plan.add_assignment(root, sheet, number);
+        plan.priority(node, priority);
+    }
+    plan.image()
+}

@@ -1,0 +1,76 @@
+//! The events file: text, one event a line.
+
+use crate::trouble::Trouble;
+use samblokur::{EventBuilder, Kind, LookupId, NodeId, Records, Value};
+
+/// An event as it was read.
+pub struct Event {
+    pub line: usize,
+    pub text: String,
+    pub builder: EventBuilder,
+}
+
+/// Reads a whole file. A value is read as the kind of its lookup.
+pub fn read(file: &str, text: &str, records: &Records) -> Result<Vec<Event>, Trouble> {
+    let mut events = Vec::new();
+    for (line, raw) in (1..).zip(text.lines()) {
+        let text = raw.split('#').next().unwrap_or("").trim();
+        if text.is_empty() {
+            continue;
+        }
+        let builder =
+            event(text, records).map_err(|why| Trouble::Events { file: file.to_string(), line, why })?;
+        events.push(Event { line, text: text.to_string(), builder });
+    }
+    Ok(events)
+}
+
+fn event(text: &str, records: &Records) -> Result<EventBuilder, String> {
+    if text == "nothing" {
+        return Ok(EventBuilder::new());
+    }
+    text.split(';').try_fold(EventBuilder::new(), |event, part| entry(event, part.trim(), records))
+}
+
+fn entry(event: EventBuilder, text: &str, records: &Records) -> Result<EventBuilder, String> {
+    let spaced = text.replace('=', " = ");
+    let words: Vec<&str> = spaced.split_whitespace().collect();
+    match words[..] {
+        ["lookup", lookup, "unknown"] => Ok(event.unknown(LookupId(number(lookup, "lookup")?))),
+        ["lookup", lookup, "=", value] => {
+            let lookup = LookupId(number(lookup, "lookup")?);
+            Ok(event.value(lookup, constant(value, lookup, records)?))
+        }
+        ["returned", node] => Ok(event.returned(NodeId(number(node, "node")?))),
+        [] => Err("an entry is missing beside a semicolon".to_string()),
+        _ => Err(format!(
+            "{} is no entry; one is `lookup 0 = true`, `lookup 1 unknown`, `returned 3` or `nothing`",
+            quoted(text)
+        )),
+    }
+}
+
+fn number(text: &str, what: &str) -> Result<u16, String> {
+    text.parse().map_err(|_| format!("{} is no number of a {what}", quoted(text)))
+}
+
+fn constant(text: &str, lookup: LookupId, records: &Records) -> Result<Value, String> {
+    let kind = records.lookup(lookup).and_then(|record| record.kind());
+    let Some(kind) = kind else {
+        return Err(format!("the plan has no {lookup}; it has {} of them", records.counts().looks));
+    };
+    let value = match (kind, text) {
+        (Kind::Bool, "true" | "True") => Some(Value::Bool(true)),
+        (Kind::Bool, "false" | "False") => Some(Value::Bool(false)),
+        (Kind::Bool, _) => None,
+        (Kind::Int, _) => text.parse().ok().map(Value::Int),
+        (Kind::Real, _) => text.parse().ok().filter(|real: &f64| real.is_finite()).map(Value::Real),
+    };
+    value.ok_or_else(|| format!("{lookup} is {kind}, and {} is no {kind}", quoted(text)))
+}
+
+/// A text of the file as a message may quote it.
+fn quoted(text: &str) -> String {
+    let short: String = text.chars().take(60).flat_map(char::escape_debug).collect();
+    format!("`{short}`")
+}

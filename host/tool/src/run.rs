@@ -1,0 +1,49 @@
+//! `run`: the turns of a plan, told in words and drawn.
+
+use crate::arguments::Asked;
+use crate::events::{self, Event};
+use crate::svg::Picture;
+use crate::telling;
+use crate::trouble::{Trouble, read_plan, read_text};
+use crate::turn::turn;
+use samblokur::{Plan, Session};
+use std::fs;
+
+pub fn run(asked: &Asked, told: &mut String) -> Result<(), Trouble> {
+    let image = read_plan(&asked.plan)?;
+    let plan = Plan::open(&image).map_err(Trouble::refused(&asked.plan))?;
+    let events = match &asked.events {
+        Some(file) => events::read(file, &read_text(file)?, &plan.records())?,
+        None => Vec::new(),
+    };
+    let mut picture = Picture::new(plan);
+    let ending = turns(asked, plan, &events, &mut picture, told);
+    // A refused event ends the run; the picture shows what came before it.
+    if let Some(file) = &asked.svg {
+        fs::write(file, picture.svg()).map_err(|why| Trouble::Write { file: file.clone(), why })?;
+    }
+    ending
+}
+
+fn turns(
+    asked: &Asked,
+    plan: Plan,
+    events: &[Event],
+    picture: &mut Picture,
+    told: &mut String,
+) -> Result<(), Trouble> {
+    let mut session = Session::fresh(plan).map_err(Trouble::refused(&asked.plan))?;
+    let mut cause = "fresh start".to_string();
+    let mut events = events.iter();
+    loop {
+        let turn = turn(&mut session, cause, asked.budget)
+            .map_err(Trouble::refused(format!("the run of {}", asked.plan)))?;
+        telling::tell(&turn, &session, told);
+        picture.add(&turn, &session);
+        let Some(event) = events.next() else { return Ok(()) };
+        let serial = session.next_serial();
+        let taken = session.take(&event.builder.bytes(serial));
+        taken.map_err(Trouble::refused(format!("event {serial} (line {}: {})", event.line, event.text)))?;
+        cause = format!("event {serial} ({})", event.text);
+    }
+}

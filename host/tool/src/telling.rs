@@ -1,0 +1,94 @@
+//! A turn told in words.
+
+use crate::turn::Turn;
+use crate::written::counted;
+use samblokur::{Body, Ending, Failure, NodeId, Outcome, Records, Session, Status, VariableId, Word};
+use std::fmt::Write;
+
+/// Statuses of one node that a line shows at most.
+const MOST: usize = 10;
+
+/// Steps, words, the statuses that each node went through, and the variables that changed.
+pub fn tell(turn: &Turn, session: &Session, told: &mut String) {
+    let steps = counted(turn.steps.len() as u64, "step");
+    let ending = match turn.ending {
+        Ending::Quiet => "Quiet",
+        Ending::Spent => "Spent (the budget is used and a rule still applies)",
+    };
+    let _ = writeln!(told, "{}: {steps}, {ending}", turn.cause);
+    words(turn, &session.plan().records(), told);
+    for node in (0..session.plan().counts().nodes).map(NodeId) {
+        statuses(turn, session, node, told);
+    }
+    variables(turn, session, told);
+}
+
+fn variables(turn: &Turn, session: &Session, told: &mut String) {
+    let earlier = Session::kept(session.plan(), turn.before.clone(), session.card());
+    for variable in (0..session.plan().counts().vars).map(VariableId) {
+        let (before, after) = (earlier.variable(variable), session.variable(variable));
+        if let (Some(before), Some(after)) = (before, after)
+            && before != after
+        {
+            let _ = writeln!(told, "  {variable}: {before} → {after}");
+        }
+    }
+}
+
+fn words(turn: &Turn, records: &Records, told: &mut String) {
+    for (number, step) in (1..).zip(&turn.steps) {
+        for word in &step.words {
+            let what = records.node(word.node()).map_or(0, |record| record.what);
+            let done = match word {
+                Word::Issue(_) => "issued",
+                Word::Abort(_) => "aborted",
+            };
+            let _ = writeln!(told, "  step {number}: {done} command {what} of {}", word.node());
+        }
+    }
+}
+
+fn statuses(turn: &Turn, session: &Session, node: NodeId, told: &mut String) {
+    let first = turn.before.status[node.place()];
+    let later = turn.steps.iter().filter_map(|step| step.statuses.get(node.place()).copied());
+    let mut path = vec![first];
+    path.extend(later);
+    path.dedup();
+    if path.len() == 1 {
+        return;
+    }
+    let upshot = Some(upshot(session, node)).filter(|upshot| !upshot.is_empty());
+    let upshot = upshot.map_or(String::new(), |upshot| format!(" ({upshot})"));
+    let _ = writeln!(told, "  {node}: {}{upshot}", shortened(&path));
+}
+
+/// A long path keeps its first statuses and its last ones.
+fn shortened(path: &[u8]) -> String {
+    let word = |&status: &u8| Status::of(status).map_or("?", Status::word).to_string();
+    let mut words: Vec<String> = path.iter().map(word).collect();
+    if words.len() > MOST {
+        let moves = format!("… {} moves …", words.len() - MOST + 1);
+        let (from, to) = (MOST - 3, words.len() - 3);
+        words.splice(from..to, [moves]);
+    }
+    words.join(" → ")
+}
+
+/// A node's outcome and failure in words; nothing while it has none.
+pub fn upshot(session: &Session, node: NodeId) -> String {
+    match (session.outcome(node), session.failure(node)) {
+        (Some(Outcome::None) | None, _) => String::new(),
+        (Some(outcome), Some(Failure::None) | None) => outcome.to_string(),
+        (Some(outcome), Some(failure)) => format!("{outcome}, {failure}"),
+    }
+}
+
+/// A short name of what a node is.
+pub fn name(records: &Records, node: NodeId) -> String {
+    let Some(record) = records.node(node) else { return node.to_string() };
+    match record.body() {
+        Some(Body::List) => format!("{node} list"),
+        Some(Body::Command) => format!("{node} command {}", record.what),
+        _ => format!("{node} variable {} :=", record.what),
+    }
+}
