@@ -1,5 +1,3 @@
-pub mod ChildLaws
 pub mod WordLaws
-pub mod RuleLaws
 pub mod CarryLaws
 pub mod StepLaws

@@ -1,9 +1,5 @@
-// 004's micro relation in code: what each node does, and one step of them all.
-mod children;
-mod moved;
+// 004's micro relation in code: every node visited, and one step of them all.
 mod rest;
-mod rules;
-mod statuses;
 mod steps;
 mod visits;
 mod words;

@@ -1,7 +1,7 @@
 // "Quiet means that no rule applies".
-use super::children::test_children;
-use super::moved::applies;
-use super::rules::move_of;
+use atomic::applies;
+use atomic::move_of;
+use atomic::test_children;
 use plexil::State;
 ghost use mathlib.Core.Path.{_≡_};
 ghost use mathlib.Core.Bool.{false};

@@ -1,8 +1,8 @@
 // One micro step: every node visited, the words counted and written, the writes and the losers settled.
-use super::children::test_children;
 use super::visits::walk;
 use super::words::count_words;
 use super::words::put_words;
+use atomic::test_children;
 use plexil::State;
 ghost use mathlib.Core.Path.{_≡_};
 ghost use Rattle.plexil.specs.Micro.{quiet};

@@ -1,9 +1,9 @@
 // "a visit reads only the state before the step and what earlier visits carried on", and the walk over the nodes in order.
-use super::moved::applies;
-use super::moved::place_by;
-use super::moved::sent_by;
-use super::moved::writes;
-use super::rules::move_of;
+use atomic::applies;
+use atomic::move_of;
+use atomic::place_by;
+use atomic::sent_by;
+use atomic::writes;
 use plexil::Cell;
 use plexil::Place;
 ghost use mathlib.Core.Path.{_≡_};
