@@ -2,7 +2,8 @@
  * Samblokur: a plan executive for PLEXIL whose running code is proved.
  *
  * Four calls over memory that the host lends. The library keeps no memory of
- * its own, allocates nothing, and keeps no pointer after a call returns.
+ * its own, allocates nothing, and keeps no pointer after a call returns. Link
+ * with libsamblokur.a; it needs nothing but the C library.
  *
  * Lent memory: every pointer is non-null, aligned for its type, and the parts
  * that a call writes overlap nothing else that it is lent. An image, an event
@@ -12,6 +13,21 @@
  * Each call returns the refusal number, 0 where nothing is refused, and fills
  * every field of its report. A refusal changes nothing else that was lent, but
  * for SAMBLOKUR_NO_ROOM, which keeps the steps already done.
+ *
+ * A host's course:
+ *
+ *   samblokur_fresh, once
+ *   repeat:
+ *     samblokur_run from place 0 of an empty list
+ *       SPENT:   call it again; a rule still applies (a budget of 0 does no
+ *                step, so it would stay SPENT for ever)
+ *       NO_ROOM: carry out the words below report.next, empty the list, call it
+ *                again. With SAMBLOKUR_ROOM places NO_ROOM on an empty list
+ *                never comes
+ *       DONE:    the plan is Quiet; carry out the words below report.next
+ *     wait for what the cabinet reports, then samblokur_take
+ *
+ * An aborted command is still awaited: return it too when it has stopped.
  */
 #ifndef SAMBLOKUR_H
 #define SAMBLOKUR_H
@@ -24,8 +40,9 @@ extern "C" {
 #endif
 
 /* Refusal numbers. The lowest broken of 1 to 12 is answered, with the lowest
- * record that breaks it. Every call checks its image first (1 to 12), then the
- * state and card (30; not samblokur_fresh), then 31 or 20 to 25 in order. */
+ * record that breaks it. Every call checks its image first (1 to 12); then
+ * samblokur_run and samblokur_take check the state and card (30), and then 31,
+ * or 20 to 25 in order. The limits are those of samblokur_counts. */
 enum samblokur_refusal {
   SAMBLOKUR_ACCEPTED = 0,
   SAMBLOKUR_SHORT = 1,       /* image under 20 bytes */
@@ -54,7 +71,8 @@ enum samblokur_refusal {
                                 or Failing, or marked already */
   SAMBLOKUR_STATE = 30,      /* state or card is none of this plan's */
   SAMBLOKUR_PLACE = 31,      /* list start beyond its end */
-  SAMBLOKUR_NO_ROOM = 32     /* the next step's words do not fit */
+  SAMBLOKUR_NO_ROOM = 32     /* the next step's words do not fit: report.steps
+                                are done, their words stand below report.next */
 };
 
 enum samblokur_status {
@@ -83,8 +101,8 @@ enum samblokur_failure {
   SAMBLOKUR_WRITE_LOST = 5
 };
 
-/* A cell's tag; the bits are a Bool's 0 or 1, an Int's two's complement or a
- * finite Real's binary64. Unknown has bits 0. */
+/* A cell's tag, one more than the kind in images; the bits are a Bool's 0 or 1,
+ * an Int's two's complement or a finite Real's binary64. Unknown has bits 0. */
 enum samblokur_tag {
   SAMBLOKUR_UNKNOWN = 0,
   SAMBLOKUR_BOOL = 1,
@@ -94,12 +112,12 @@ enum samblokur_tag {
 
 enum samblokur_phase { SAMBLOKUR_RUNNING = 0, SAMBLOKUR_QUIET = 1 };
 
-/* report.ending: the first of a refused call, the second of an accepted check,
- * fresh start or event, the second or third of a run. */
+/* report.ending */
 enum samblokur_ending {
-  SAMBLOKUR_REFUSED = 0,
-  SAMBLOKUR_DONE = 1,
-  SAMBLOKUR_SPENT = 2
+  SAMBLOKUR_REFUSED = 0, /* the call was refused */
+  SAMBLOKUR_DONE = 1,    /* a check, fresh start or event: accepted; a run: the
+                            plan is Quiet, no rule applies any more */
+  SAMBLOKUR_SPENT = 2    /* a run: the budget is used and a rule still applies */
 };
 
 /* What a plan keeps between calls. Places past the plan's counts hold 0. */
@@ -116,7 +134,8 @@ typedef struct samblokur_state {
 
 /* The turn card. The host lends its own and each call advances it. */
 typedef struct samblokur_card {
-  uint32_t serial; /* the serial that the next event must carry */
+  uint32_t serial; /* the serial that the next event must carry: 0 at first,
+                      and after 4294967295 again */
   uint32_t phase;  /* samblokur_phase */
 } samblokur_card;
 
@@ -137,9 +156,42 @@ typedef struct samblokur_report {
                       it is refused (but for NO_ROOM); else 0 */
 } samblokur_report;
 
-/* A command word is twice the node number, plus 1 for an abort. */
+/* A command word is twice the node number, plus 1 for an abort. Which command
+ * it is stands in the node's record, at SAMBLOKUR_NODE_WHAT. */
 #define SAMBLOKUR_WORD_NODE(word) ((uint32_t)(word) >> 1)
 #define SAMBLOKUR_WORD_IS_ABORT(word) (((uint32_t)(word) & 1u) != 0u)
+
+/* A step writes at most one word a node: a list of so many places is room for
+ * any step. */
+#define SAMBLOKUR_ROOM 256
+
+/* An event, little-endian: serial 32, count 16, spare 16 (0), then so many
+ * entries of 12 bytes: form 8, spare 8 (0), index 16 (of the lookup or node),
+ * value 64 (bits as in a cell of the lookup's kind; 0 but for a lookup value).
+ * An event without entries is one too. More than 128 returns need two events. */
+enum samblokur_form {
+  SAMBLOKUR_LOOKUP_VALUE = 0,
+  SAMBLOKUR_LOOKUP_UNKNOWN = 1,
+  SAMBLOKUR_RETURNED = 2
+};
+#define SAMBLOKUR_EVENT_HEADER 8
+#define SAMBLOKUR_EVENT_ENTRY 12
+#define SAMBLOKUR_EVENT_MOST 128
+
+/* A plan image, little-endian. Header, ten 16-bit numbers: edition (1), counts
+ * of nodes, expressions, variables and lookups, the offsets of these four
+ * sections, total length. The sections follow in that order with no gap:
+ *   node, 24 bytes: parent 16 (65535 for node 0); type 8 (0 list, 1 command,
+ *     2 assignment); spare 8; priority 16; Skip, Start, Pre, Inv, End, Post,
+ *     Repeat 16 each (expression, or 65535 for the default); what 16 (variable,
+ *     command number, or 65535); value 16 (expression, or 65535)
+ *   expression, 16 bytes: operator 8; kind 8; a 16; b 16; spare 16; constant 64
+ *   variable, 16 bytes: kind 8; known 8; owner node 16; spare 32; initial 64
+ *   lookup, 2 bytes: kind 8; spare 8
+ * Kinds: 0 Bool, 1 Int, 2 Real. */
+#define SAMBLOKUR_NODES_AT 20
+#define SAMBLOKUR_NODE_SIZE 24
+#define SAMBLOKUR_NODE_WHAT 20
 
 /* Checks a plan image. */
 uint32_t samblokur_check(const uint8_t *image, size_t image_len,
@@ -151,8 +203,8 @@ uint32_t samblokur_fresh(const uint8_t *image, size_t image_len,
                          samblokur_report *report);
 
 /* Runs to quiet under a step budget and writes the command words into list
- * from place start on, those of one micro step in node order. Ends Quiet when
- * no rule applies, Spent when the budget is used and a rule still applies. */
+ * from place start on, those of one micro step in node order. A run of a plan
+ * that is Quiet does no step and is DONE. */
 uint32_t samblokur_run(const uint8_t *image, size_t image_len,
                        samblokur_state *state, samblokur_card *card,
                        uint16_t budget, uint32_t *list, size_t list_len,

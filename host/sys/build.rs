@@ -1,13 +1,10 @@
-//! Points the linker at the proved static library when the feature `linked` asks for it.
+//! Points the linker at the proved static library.
 
 use std::env;
 use std::path::PathBuf;
 
 fn main() {
     println!("cargo::rerun-if-env-changed=SAMBLOKUR_LIB_DIR");
-    if env::var_os("CARGO_FEATURE_LINKED").is_none() {
-        return;
-    }
     let folder = env::var_os("SAMBLOKUR_LIB_DIR").map_or_else(beside_the_host, PathBuf::from);
     println!("cargo::rerun-if-changed={}", folder.join("libsamblokur.a").display());
     println!("cargo::rustc-link-search=native={}", folder.display());

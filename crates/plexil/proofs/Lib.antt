@@ -6,16 +6,6 @@ pub mod ReplyLaws
 pub mod TestLaws
 pub mod Statuses
 pub mod KnownEnds
-pub mod VectorsOfValues
-pub mod VectorsOfExpressions
-pub mod VectorsOfRecords
-pub mod VectorsOfEntries
-pub mod VectorsOfForm
-pub mod VectorsOfRules
-pub mod VectorsOfTrees
-pub mod VectorsOfEvents
-pub mod VectorsOfRuns
-pub mod VectorsOfParts
 pub mod Exactness
 pub mod Admitted
 pub mod OperatorKinds

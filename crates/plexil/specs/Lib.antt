@@ -22,13 +22,3 @@ pub mod Assemble
 pub mod Play
 pub mod Everything
 pub mod KnownEnds
-pub mod VectorsOfValues
-pub mod VectorsOfExpressions
-pub mod VectorsOfRecords
-pub mod VectorsOfEntries
-pub mod VectorsOfForm
-pub mod VectorsOfRules
-pub mod VectorsOfTrees
-pub mod VectorsOfEvents
-pub mod VectorsOfRuns
-pub mod VectorsOfParts

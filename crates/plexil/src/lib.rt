@@ -46,6 +46,7 @@ pub struct Card {
 }
 
 // How many nodes, expressions, variables and lookups an admitted plan has.
+#[repr(C)]
 pub struct Counts {
     pub nodes: u16,
     pub exprs: u16,

@@ -27,6 +27,16 @@ impl Measure {
         self.least = self.least.into_iter().chain(other.least).reduce(f64::min);
     }
 
+    /// The time without that of a part.
+    pub fn less(self, part: Measure) -> Measure {
+        Measure { least: Some(self.ns() - part.ns()) }
+    }
+
+    /// The time of one of so many parts.
+    pub fn each_of(self, parts: u32) -> Measure {
+        Measure { least: Some(self.ns() / f64::from(parts)) }
+    }
+
     /// The nanoseconds of a piece.
     pub fn ns(&self) -> f64 {
         self.least.unwrap_or(f64::NAN)

@@ -18,12 +18,7 @@ pub use tally::Tally;
 pub use tour::tour;
 
 /// The executive under test.
-#[cfg(feature = "linked")]
-pub type Subject = samblokur_sys::Linked;
-
-/// The executive under test.
-#[cfg(not(feature = "linked"))]
-pub type Subject = plain::Plain;
+pub type Subject = samblokur_sys::Library;
 
 /// The executive that it is held against.
 pub type Model = plain::Plain;

@@ -30,7 +30,6 @@
 
 mod assemble;
 mod codes;
-mod engine;
 mod entries;
 mod event;
 mod ids;

@@ -1,8 +1,7 @@
 //! An opened plan: a view over the caller's image bytes.
 
-use crate::engine::Engine;
 use crate::{Records, Refusal};
-use samblokur_sys::{Counts, Executive, Report};
+use samblokur_sys::{Counts, Executive, Library, Report};
 
 /// A plan image that passed the check. It copies none of the caller's bytes.
 #[derive(Clone, Copy, Debug)]
@@ -18,7 +17,7 @@ impl<'a> Plan<'a> {
     /// One of the refusals 1 to 12.
     pub fn open(image: &'a [u8]) -> Result<Plan<'a>, Refusal> {
         let (mut counts, mut report) = (Counts::default(), Report::default());
-        Engine::check(image, &mut counts, &mut report);
+        Library::check(image, &mut counts, &mut report);
         Refusal::of(&report)?;
         Ok(Plan { image, counts })
     }

@@ -1,8 +1,7 @@
 //! A plan in the course of its turns: the owner of a state and a turn card.
 
-use crate::engine::Engine;
 use crate::{Failure, LookupId, NodeId, Outcome, Phase, Plan, Refusal, Status, Value, VariableId};
-use samblokur_sys::{Card, Executive, Report, State};
+use samblokur_sys::{Card, Executive, Library, Report, State};
 
 /// A state and card that belong to a plan.
 #[derive(Clone, Debug)]
@@ -40,7 +39,7 @@ impl<'a> Session<'a> {
     pub fn fresh(plan: Plan<'a>) -> Result<Session<'a>, Refusal> {
         let mut session = Session { plan, state: State::default(), card: Card::default() };
         let mut report = Report::default();
-        Engine::fresh(plan.image(), &mut session.state, &mut session.card, &mut report);
+        Library::fresh(plan.image(), &mut session.state, &mut session.card, &mut report);
         Refusal::of(&report).map(|()| session)
     }
 
@@ -57,7 +56,7 @@ impl<'a> Session<'a> {
     pub fn run(&mut self, budget: u16, list: &mut [u32], start: usize) -> Result<Run, Refusal> {
         let mut report = Report::default();
         let (state, card) = (&mut self.state, &mut self.card);
-        Engine::run(self.plan.image(), state, card, budget, list, start, &mut report);
+        Library::run(self.plan.image(), state, card, budget, list, start, &mut report);
         Refusal::of(&report)?;
         let ending = if report.ending == 2 { Ending::Spent } else { Ending::Quiet };
         Ok(Run { ending, steps: report.steps, next: report.next })
@@ -69,7 +68,7 @@ impl<'a> Session<'a> {
     /// 30, or one of 20 to 25.
     pub fn take(&mut self, event: &[u8]) -> Result<(), Refusal> {
         let mut report = Report::default();
-        Engine::take(self.plan.image(), &mut self.state, &mut self.card, event, &mut report);
+        Library::take(self.plan.image(), &mut self.state, &mut self.card, event, &mut report);
         Refusal::of(&report)
     }
 

@@ -1,5 +1,5 @@
-//! The C interface of include/samblokur.h as Rust sees it: its four records, its four calls and, with the
-//! feature `linked`, the proved library behind them.
+//! The C interface of include/samblokur.h as Rust sees it: its four records, its four calls and the
+//! proved library behind them.
 //!
 //! This is the only module of the workspace that says `unsafe`, and the only one that moves when the header
 //! does. Everything else speaks of an [`Executive`].
@@ -139,11 +139,9 @@ pub trait Executive {
 }
 
 /// The proved library.
-#[cfg(feature = "linked")]
 #[derive(Clone, Copy, Debug)]
-pub struct Linked;
+pub struct Library;
 
-#[cfg(feature = "linked")]
 unsafe extern "C" {
     fn samblokur_check(image: *const u8, image_len: usize, counts: *mut Counts, report: *mut Report) -> u32;
 
@@ -181,8 +179,7 @@ unsafe extern "C" {
 // SAFETY, for all four calls: every pointer comes from a reference or slice that lives through the call, the
 // mutable ones are exclusive, each length is its slice's own, every bit pattern of the records is a value of
 // its type, and the library keeps no pointer.
-#[cfg(feature = "linked")]
-impl Executive for Linked {
+impl Executive for Library {
     fn check(image: &[u8], counts: &mut Counts, report: &mut Report) -> u32 {
         unsafe { samblokur_check(image.as_ptr(), image.len(), counts, report) }
     }

@@ -1,0 +1,46 @@
+//! The stack of the deepest call: the smallest thread in which the four calls work on the deepest plan.
+
+use crate::sum::{RUNNING, Sum};
+use samblokur_sys::Library;
+use std::error::Error;
+use std::process::{Command, Stdio};
+use std::thread;
+
+/// The argument by which this program calls itself; the thread's size in bytes follows.
+pub const WITHIN: &str = "--within";
+
+const KB: usize = 1024;
+
+/// A thread that is too small ends its process, so each size is tried in a process of its own.
+pub fn least() -> Result<usize, Box<dyn Error>> {
+    let (mut small, mut enough) = (0, 256 * KB);
+    while enough - small > KB {
+        let middle = (small + enough) / 2;
+        if works_within(middle)? {
+            enough = middle;
+        } else {
+            small = middle;
+        }
+    }
+    Ok(enough)
+}
+
+fn works_within(bytes: usize) -> Result<bool, Box<dyn Error>> {
+    let mut again = Command::new(std::env::current_exe()?);
+    let ended =
+        again.args([WITHIN, &bytes.to_string()]).stdout(Stdio::null()).stderr(Stdio::null()).status()?;
+    Ok(ended.success())
+}
+
+/// The four calls in a thread of so many bytes.
+pub fn within(bytes: usize) -> Result<(), Box<dyn Error>> {
+    let sum = Sum::new()?;
+    let calls = thread::Builder::new().stack_size(bytes).spawn(move || {
+        let mut state = sum.fresh::<Library>();
+        sum.check::<Library>();
+        sum.run::<Library>(&mut state, RUNNING);
+        sum.take::<Library>(&mut state);
+    })?;
+    calls.join().map_err(|_| "the calls panicked")?;
+    Ok(())
+}
