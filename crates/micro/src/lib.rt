@@ -1,7 +1,6 @@
 // 004's micro relation in code: every node visited, and one step of them all.
 mod rest;
 mod steps;
-mod visits;
 mod words;
 
 pub use rest::is_quiet;

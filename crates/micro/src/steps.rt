@@ -1,9 +1,9 @@
 // One micro step: every node visited, the words counted and written, the writes and the losers settled.
-use super::visits::walk;
 use super::words::count_words;
 use super::words::put_words;
 use atomic::test_children;
 use plexil::State;
+use visit::walk;
 ghost use mathlib.Core.Path.{_≡_};
 ghost use Rattle.plexil.specs.Micro.{quiet};
 ghost use Rattle.plexil.specs.Promises.{IsAdmitted, IsKept};

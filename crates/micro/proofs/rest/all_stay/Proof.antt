@@ -9,7 +9,7 @@ use Rattle.plexil.specs.Places.{stateOf}
 use Rattle.plexil.specs.Atomic.{moveOf}
 use Rattle.plexil.specs.Micro.{stays}
 use Rattle.plexil.proofs.Admitted.{few-nodes}
-use Rattle.micro.proofs.CarryLaws.{none-below, all-below, stay-below}
+use Rattle.visit.proofs.CarryLaws.{none-below, all-below, stay-below}
 use Rattle.micro.proofs.rest.all_stay.Statement.{statement}
 use Rattle.micro.proofs.rest.all_stay.Tie as tie
 

@@ -4,8 +4,8 @@ use borrow.Author.Tests.{lt-ltb, le-ltb, eq-eqb, ne-eqb}
 use Rattle.plexil.specs.Order.{meet}
 use Rattle.plexil.proofs.ListLaws.{if-true, if-false}
 use borrow.Author.Needs.{needs}
-use Rattle.micro.proofs.visits.meet_writer.Statement.{statement}
-use Rattle.micro.proofs.visits.meet_writer.Tie as tie
+use Rattle.visit.proofs.meet_writer.Statement.{statement}
+use Rattle.visit.proofs.meet_writer.Tie as tie
 
 mul-best : tie.Need-mul-best
 mul-best c = search needs

@@ -2,8 +2,8 @@
 use mathlib.Core.Path.{refl}
 use Rattle.plexil.specs.Order.{putPlace}
 use borrow.Author.Needs.{needs}
-use Rattle.micro.proofs.visits.put_place.Statement.{statement}
-use Rattle.micro.proofs.visits.put_place.Tie as tie
+use Rattle.visit.proofs.put_place.Statement.{statement}
+use Rattle.visit.proofs.put_place.Tie as tie
 
 element-write-st2 : tie.Need-element-write-st2
 element-write-st2 c = search needs

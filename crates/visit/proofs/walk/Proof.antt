@@ -1,5 +1,5 @@
 -- After i nodes what is carried is the walk's as far as i; what is left of the nodes falls.
-use Rattle.micro.proofs.CarryLaws.{walk-end}
+use Rattle.visit.proofs.CarryLaws.{walk-end}
 use borrow.Author.Needs.{needs}
 use native.Mathlib.Omega.{arith}
 use Prim.Native.Nat.{ℕ, _≤_, _-_}
@@ -13,10 +13,10 @@ use Rattle.plexil.specs.Micro.{sent as sentOf, stays}
 use Rattle.plexil.proofs.Admitted.{few-nodes}
 use Rattle.plexil.proofs.RenewLaws.{renew-none}
 use Rattle.plexil.proofs.NodeOrder.{walkTo, walkTo-zero}
-use Rattle.micro.specs.Carried.{carryOf}
-use Rattle.micro.proofs.CarryLaws.{allBelow-or, sent-next, walk-next}
-use Rattle.micro.proofs.visits.walk.Statement.{statement}
-use Rattle.micro.proofs.visits.walk.Tie as tie
+use Rattle.visit.specs.Carried.{carryOf}
+use Rattle.visit.proofs.CarryLaws.{allBelow-or, sent-next, walk-next}
+use Rattle.visit.proofs.walk.Statement.{statement}
+use Rattle.visit.proofs.walk.Tie as tie
 
 abbrev Inv-loop : tie.InvT-loop
 Inv-loop image st oc fl mk vt vb lt lb n finished resting st2₀ oc2₀ fl2₀ mk2₀ top₀ node₀ tags₀ bits₀ tied₀ sent₀ moved₀ i₀ st2 oc2 fl2 mk2 top node tags bits tied sent moved i =

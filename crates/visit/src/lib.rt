@@ -19,7 +19,7 @@ ghost use Rattle.plexil.specs.Micro.{sent as sentOf, stays};
 ghost use Rattle.plexil.specs.Order.{putPlace, meet, visit};
 ghost use Rattle.plexil.specs.Promises.{IsAdmitted, IsKept};
 ghost use Rattle.plexil.proofs.NodeOrder.{walkTo};
-ghost use Rattle.micro.specs.Carried.{carryOf};
+ghost use Rattle.visit.specs.Carried.{carryOf};
 
 // The next places so far, with node i's.
 fn put_place(

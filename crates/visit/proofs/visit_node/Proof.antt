@@ -4,10 +4,10 @@ use native.Mathlib.Omega.{arith}
 use Prim.Native.Nat.{ℕ, _+_}
 use lib.ListN.{set}
 use Rattle.plexil.proofs.Admitted.{few-nodes}
-use Rattle.micro.proofs.CarryLaws.{sent-is, applied, visit-writes, visit-passes, target-below, written-is}
+use Rattle.visit.proofs.CarryLaws.{sent-is, applied, visit-writes, visit-passes, target-below, written-is}
 use borrow.Author.Needs.{needs}
-use Rattle.micro.proofs.visits.visit_node.Statement.{statement}
-use Rattle.micro.proofs.visits.visit_node.Tie as tie
+use Rattle.visit.proofs.visit_node.Statement.{statement}
+use Rattle.visit.proofs.visit_node.Tie as tie
 
 move-of-requires : tie.Need-move-of-requires
 move-of-requires c κs = search needs

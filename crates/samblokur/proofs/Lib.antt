@@ -1,0 +1,3 @@
+pub mod ExitLaws
+pub mod Lending
+pub mod Lent

@@ -1,0 +1,11 @@
+// The library that a host links: check, fresh start, run and the taking of an event, each over memory that the host lends.
+mod calls;
+mod entries;
+mod numbers;
+mod reports;
+
+pub use entries::samblokur_check;
+pub use entries::samblokur_fresh;
+pub use entries::samblokur_run;
+pub use entries::samblokur_take;
+pub use reports::Report;
