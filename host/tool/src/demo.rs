@@ -38,13 +38,20 @@ step, so both want to write one variable at one time.
 ";
 
 const OLD_TOWER: &str = "
-3. What the old tower did
+3. What the old tower did with the plan of 1.
 
-   The archive's old tower went through the file from top to bottom and let each
-   node write over the one before it. The lower node in the file won, whatever
-   its priority. That is node 2: sheet B became current, and the mark of AA was
-   gone without a word. With the two nodes exchanged in the file the same plan
-   would have made AA current.
+   It went through the file from top to bottom and let each node write over the
+   one before it, whatever its priority:
+
+";
+
+const STAIRCASE: &str = "   \
+   The lower node in the file won, and the mark of AA was gone without a word: a
+   joinery shop cut a staircase to a superseded drawing.
+
+   Now the order in the file does not matter. The plan of 1. with its two nodes
+   exchanged, B with priority 3 above AA with priority 5:
+
 ";
 
 pub fn demo(told: &mut String) -> Result<(), Trouble> {
@@ -53,18 +60,30 @@ pub fn demo(told: &mut String) -> Result<(), Trouble> {
 }
 
 fn told_through(told: &mut String) -> Result<(), Refusal> {
+    let mission = [(AA, 5), (B, 3)];
     told.push_str(OPENING);
     told.push_str("\n1. A higher priority on AA: node 1 has priority 5, node 2 has priority 3\n\n");
-    told.push_str(&marked([(AA, 5), (B, 3)])?);
+    told.push_str(&marked(mission)?);
     told.push_str("   The later sheet is current, and the node that lost its write knows it.\n");
     told.push_str("\n2. Equal priorities: both nodes have priority 5\n\n");
     told.push_str(&marked([(AA, 5), (B, 5)])?);
     told.push_str("   Nothing is decided by chance: the sheet stays, and both nodes know it.\n");
     told.push_str(OLD_TOWER);
-    told.push_str("\n   Now the order in the file does not matter. The plan of 1. with its two nodes\n");
-    told.push_str("   exchanged, B with priority 3 above AA with priority 5:\n\n");
+    told.push_str(&marked_in_the_old_tower(mission));
+    told.push_str(STAIRCASE);
     told.push_str(&marked([(B, 3), (AA, 5)])?);
     Ok(())
+}
+
+/// The old tower: each node writes in the order of the file.
+fn marked_in_the_old_tower(two: Two) -> String {
+    let mut told = String::new();
+    let mut sheet = A;
+    for (node, (revision, _)) in (1..).map(NodeId).zip(two) {
+        sheet = revision;
+        told += &format!("   {node} marks {}: Success\n", sheet.letters);
+    }
+    told + &format!("   Current sheet: {} ({})\n", sheet.letters, sheet.number)
 }
 
 /// Runs the plan and tells what came of it.

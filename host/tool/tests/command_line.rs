@@ -71,8 +71,9 @@ fn a_spent_turn_is_busy() {
 fn the_demo() {
     let told = said(&["demo"]);
     let sheets: Vec<&str> = told.lines().filter(|line| line.contains("Current sheet")).collect();
-    let [first, second, third] = sheets[..] else { panic!("{told}") };
-    assert!(first.contains("AA (27)") && second.contains("A (1)") && third.contains("AA (27)"));
+    let [higher, equal, old, exchanged] = sheets[..] else { panic!("{told}") };
+    assert!(higher.contains("AA (27)") && equal.contains("A (1)"));
+    assert!(old.contains("B (2)") && exchanged.contains("AA (27)"));
 }
 
 #[test]
