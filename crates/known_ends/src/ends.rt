@@ -1,132 +1,120 @@
 // K1 to K10, each fresh with budget 100.
-use super::answers;
-use super::plans;
-use super::play::after;
-use super::play::play;
-use super::print;
-use super::write;
 use plexil::Ran;
+use telling::after;
+use telling::end;
+use telling::run_end;
+
+// The first run over this list, and how it ended.
+fn first_run(name: &[u8], image: &[u8], list: &mut [u32]) -> Ran {
+    let r = telling::play(image, 100, list);
+    telling::text(name);
+    run_end(r);
+    r
+}
 
 // A plan without commands, to its end.
 fn begin(name: &[u8], image: &[u8]) -> Ran {
     let mut list = [0u32; 4];
-    let r = play(image, 100, &mut list);
-    print::text(name);
-    answers::run_end(r);
-    r
+    first_run(name, image, &mut list)
 }
 
 fn k1() {
-    let mut image = [0u8; 156];
-    plans::swap(&mut image);
+    let image = drawings::swap();
     let r = begin(b"K1", &image);
-    print::x(r.state);
-    print::y(r.state);
-    print::end();
+    telling::x(r.state);
+    telling::y(r.state);
+    end();
 }
 
 // The priorities a and b.
 fn contest(name: &[u8], a: u32, b: u32) {
-    let mut image = [0u8; 156];
-    plans::contest(&mut image, a, b);
+    let image = drawings::contest(a, b);
     let r = begin(name, &image);
-    print::x(r.state);
-    print::first(r.state);
-    print::second(r.state);
-    print::end();
+    telling::x(r.state);
+    telling::first(r.state);
+    telling::second(r.state);
+    end();
 }
 
 fn k4() {
-    let mut image = [0u8; 44];
-    plans::childless(&mut image);
+    let image = drawings::childless();
     let r = begin(b"K4", &image);
-    print::root(r.state);
-    print::end();
+    telling::root(r.state);
+    end();
+}
+
+// A plan that issues one word.
+fn issue(name: &[u8], image: &[u8]) -> Ran {
+    let mut list = [9u32; 4];
+    let r = first_run(name, image, &mut list);
+    telling::word(list[0]);
+    r
+}
+
+// The return of a node, and the root then.
+fn returned(image: &[u8], r: Ran, serial: u32, node: u32) {
+    let event = drawings::single(serial, 2, node);
+    let mut list = [9u32; 4];
+    let s = after(image, r.state, r.card, &event, &mut list);
+    run_end(s);
+    telling::root(s.state);
 }
 
 fn k5() {
-    let mut image = [0u8; 44];
-    plans::lone_command(&mut image);
-    let mut event = [0u8; 20];
-    write::single(&mut event, 0, 2, 0);
-    let mut list = [9u32; 4];
-    let r = play(&image, 100, &mut list);
-    print::text(b"K5");
-    answers::run_end(r);
-    print::word(list[0]);
-    let s = after(&image, r.state, r.card, &event, &mut list);
-    answers::run_end(s);
-    print::root(s.state);
-    print::end();
+    let image = drawings::lone_command();
+    let r = issue(b"K5", &image);
+    returned(&image, r, 0, 0);
+    end();
+}
+
+// A plan that assigns x, and x then.
+fn x_at_end(name: &[u8], image: &[u8]) {
+    let r = begin(name, image);
+    telling::x(r.state);
+    end();
 }
 
 fn k6() {
-    let mut image = [0u8; 164];
-    plans::counting(&mut image, 0, 0);
-    let r = begin(b"K6", &image);
-    print::x(r.state);
-    print::end();
+    let image = drawings::counting(0);
+    x_at_end(b"K6", &image);
 }
 
 fn k7() {
-    let mut image = [0u8; 164];
-    plans::counting(&mut image, 1, 0);
+    let image = drawings::counting(1);
     begin(b"K7", &image);
-    print::end();
+    end();
 }
 
 fn k8() {
-    let mut image = [0u8; 92];
-    plans::pre_false(&mut image);
+    let image = drawings::pre_false();
     let r = begin(b"K8", &image);
-    print::root(r.state);
-    print::end();
+    telling::root(r.state);
+    end();
 }
 
-// "Lookup False"
+// "Lookup False", and the word then.
 fn is_false(image: &[u8], r: Ran) -> Ran {
-    let mut event = [0u8; 20];
-    write::single(&mut event, 0, 0, 0);
+    let event = drawings::single(0, 0, 0);
     let mut list = [9u32; 4];
     let s = after(image, r.state, r.card, &event, &mut list);
-    answers::run_end(s);
-    print::word(list[0]);
+    run_end(s);
+    telling::word(list[0]);
     s
 }
 
-// "Return of node 1"
-fn returned(image: &[u8], r: Ran) {
-    let mut event = [0u8; 20];
-    write::single(&mut event, 1, 2, 1);
-    let mut list = [9u32; 4];
-    let s = after(image, r.state, r.card, &event, &mut list);
-    answers::run_end(s);
-    print::root(s.state);
-}
-
 fn k9() {
-    let mut image = [0u8; 86];
-    plans::guarded(&mut image);
-    let mut list = [9u32; 4];
-    let r = play(&image, 100, &mut list);
-    print::text(b"K9");
-    answers::run_end(r);
-    print::word(list[0]);
+    let image = drawings::guarded();
+    let r = issue(b"K9", &image);
     let s = is_false(&image, r);
-    returned(&image, s);
-    print::end();
+    returned(&image, s, 1, 1);
+    end();
 }
 
 fn k10() {
-    let mut image = [0u8; 108];
-    plans::over(&mut image);
-    let r = begin(b"K10 9223372036854775807 + 1", &image);
-    print::x(r.state);
-    print::end();
-    plans::false_and_unknown(&mut image);
-    let s = begin(b"K10 False AND Unknown", &image);
-    print::x(s.state);
-    print::end();
+    let over = drawings::over();
+    x_at_end(b"K10 9223372036854775807 + 1", &over);
+    let and = drawings::false_and_unknown();
+    x_at_end(b"K10 False AND Unknown", &and);
 }
 
 fn first_half() {
