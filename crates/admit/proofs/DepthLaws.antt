@@ -12,8 +12,8 @@ use Rattle.plexil.specs.Image.{Image, operator, operandA, operandB}
 use Rattle.plexil.specs.Expressions.{operatorOf, operatorAt}
 use Rattle.plexil.specs.Scope.{operandsPass, depthWithin}
 use Rattle.admit.specs.Depth.{Depth}
-use Rattle.admit.proofs.Laws.{one-fails, decides, passes, last}
-use Rattle.admit.proofs.Operators.{a-leaf, a-binary}
+use Rattle.plexil.proofs.TestLaws.{one-fails, and-then, and-last, decides}
+use Rattle.plexil.proofs.OperatorNumbers.{a-leaf, a-binary}
 
 -- ---- one level more
 one-deeper : (t d : ℕ) → leb t d ≡ leb (t + 1) (suc d)
@@ -23,14 +23,14 @@ second-deeper : (a b d : ℕ) → a ≤ b → leb b d ≡ every (leb a d ∷ leb
 second-deeper a b d h = go (leb b d) refl
   where
     go : (t : Bool) → leb b d ≡ t → leb b d ≡ every (leb a d ∷ leb b d ∷ [])
-    go true t = passes _ (le-leb a d (omega (arith, leb-true b d t))) (last refl)
+    go true t = and-then _ (le-leb a d (omega (arith, leb-true b d t))) (and-last refl)
     go false t = t ∙ one-fails _ 1 t
 
 first-deeper : (a b d : ℕ) → b ≤ a → leb a d ≡ every (leb a d ∷ leb b d ∷ [])
 first-deeper a b d h = go (leb a d) refl
   where
     go : (t : Bool) → leb a d ≡ t → leb a d ≡ every (leb a d ∷ leb b d ∷ [])
-    go true t = decides _ (last (sym (le-leb b d (omega (arith, leb-true a d t))))) refl
+    go true t = decides _ (and-last (sym (le-leb b d (omega (arith, leb-true a d t))))) refl
     go false t = t ∙ one-fails _ 0 t
 
 -- op is the operator of entry e

@@ -1,7 +1,3 @@
-pub mod Laws
-pub mod NodeLaws
-pub mod Operators
-pub mod EntryLaws
 pub mod Scope
 pub mod DepthLaws
 pub mod Ordered

@@ -13,7 +13,7 @@ use Rattle.plexil.specs.Records.{goodCount, operand, takes, kindOfA, goodBinary
 use Rattle.plexil.specs.Check.{records, breaks}
 use Rattle.plexil.proofs.ListLaws.{not-both, every-at, first-nowhere, same?}
 use Rattle.admit.specs.Depth.{Passed}
-use Rattle.admit.proofs.Operators.{a-binary, no-operator}
+use Rattle.plexil.proofs.OperatorNumbers.{a-binary, no-operator}
 
 taken : (p : Image) (e : ℕ) (o : Binary) → goodBinary o p e ≡ true → (k : ℕ) × ((r : ℕ) × (takes p e k r ≡ true))
 unfolding goodBinary

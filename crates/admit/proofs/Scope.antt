@@ -9,8 +9,8 @@ use Rattle.plexil.specs.Lists.{if_then_else_, every}
 use Rattle.plexil.specs.Image.{Image, parent, operator, operandA, operandB}
 use Rattle.plexil.specs.Expressions.{Operator, operatorOf, operatorAt}
 use Rattle.plexil.specs.Scope.{isAbove, inScope, leafInScope, ownInScope, operandsPass, treeInScope}
-use Rattle.admit.proofs.Laws.{if-same}
-use Rattle.admit.proofs.Operators.{a-binary, no-operator}
+use Rattle.plexil.proofs.ListLaws.{if-same}
+use Rattle.plexil.proofs.OperatorNumbers.{a-binary, no-operator}
 
 -- ---- up to node 0
 pub above-here : (p : Image) (n o i : ℕ) → 0 < n → o ≡ i → isAbove p n o i ≡ true

@@ -9,9 +9,9 @@ use Rattle.plexil.specs.Lists.{nowhere}
 use Rattle.plexil.specs.Image.{Image}
 use Rattle.plexil.specs.Check.{verdictOn}
 use Rattle.plexil.proofs.Exactness.{verdictOn-at, verdictOn-next}
-use Rattle.admit.specs.declared.found.Found.{Found}
-use Rattle.admit.specs.declared.found.Found.the-variants as code
-use Rattle.admit.specs.Broken.{foundOf, lowestBroken}
+use Rattle.records.specs.declared.found.Found.{Found}
+use Rattle.records.specs.declared.found.Found.the-variants as code
+use Rattle.records.specs.Broken.{foundOf, lowestBroken}
 
 pub record Left (all rs : List Rule) (p : Image) : Type 0 where
   pub so-far : verdictOn all p ≡ verdictOn rs p

@@ -8,7 +8,7 @@ use Rattle.plexil.specs.declared.Rule.the-variants as rule
 use Rattle.plexil.specs.Lists.{nowhere}
 use Rattle.plexil.specs.Image.{Image}
 use Rattle.plexil.specs.Scope.{depthWithin}
-use Rattle.admit.specs.Broken.{lowestBroken}
+use Rattle.records.specs.Broken.{lowestBroken}
 
 -- t is the depth of entry e
 abbrev pub Depth : Image → ℕ → ℕ → Type 0

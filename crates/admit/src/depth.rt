@@ -1,10 +1,10 @@
 // Rule 10: the depth of each entry, from the depths of the entries before it.
-use crate::found::Found;
+use records::Found;
 ghost use mathlib.Core.Path.{_≡_};
 ghost use Prim.Native.Nat.{_<_};
 ghost use Rattle.plexil.specs.declared.Rule.the-variants as rule;
 ghost use Rattle.plexil.specs.Image.{exprCount};
-ghost use Rattle.admit.specs.Broken.{foundOf, lowestBroken};
+ghost use Rattle.records.specs.Broken.{foundOf, lowestBroken};
 ghost use Rattle.admit.specs.Depth.{Depth, Passed, Filled};
 
 // "A leaf has depth 1, an operator one more than its deepest operand"

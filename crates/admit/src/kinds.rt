@@ -1,7 +1,7 @@
 // Rule 11: the kinds of conditions and values.
-use crate::conditions::all;
-use crate::found::Found;
 use plexil::Condition;
+use records::Found;
+use records::all_conditions;
 ghost use mathlib.Core.Path.{_≡_};
 ghost use mathlib.Core.List.{[], _∷_};
 ghost use lib.Dec.{eqb};
@@ -9,7 +9,7 @@ ghost use Rattle.plexil.specs.declared.Rule.the-variants as rule;
 ghost use Rattle.plexil.specs.Lists.{some};
 ghost use Rattle.plexil.specs.Image.{default, conditionField, valueField, what, resultKind, varKind};
 ghost use Rattle.plexil.specs.Scope.{givenPass, assigns, goodKinds};
-ghost use Rattle.admit.specs.Broken.{foundOf, lowestBroken};
+ghost use Rattle.records.specs.Broken.{foundOf, lowestBroken};
 
 fn bool_condition(image: &[u8], i: u16, c: Condition) -> bool
     ensures { λ r. ⌜ r ≡ some (eqb (conditionField (now (image .entry)) i c) default ∷ eqb (resultKind (now (image .entry)) (conditionField (now (image .entry)) i c)) 0 ∷ []) ⌝ }
@@ -24,7 +24,7 @@ fn bool_condition(image: &[u8], i: u16, c: Condition) -> bool
 fn bool_conditions(image: &[u8], i: u16) -> bool
     ensures { λ r. ⌜ r ≡ givenPass (now (image .entry)) i (λ e. eqb (resultKind (now (image .entry)) e) 0) ⌝ }
 {
-    all(
+    all_conditions(
         bool_condition(image, i, Condition::Skip),
         bool_condition(image, i, Condition::Start),
         bool_condition(image, i, Condition::Pre),

@@ -1,15 +1,8 @@
 // The check of a plan image: the lowest broken of the rules 1 to 12, with the lowest record that breaks it.
-mod conditions;
 mod depth;
-mod expressions;
-mod found;
-mod header;
 mod kinds;
-mod nodes;
-mod operands;
 mod reach;
 mod rules;
-mod variables;
 
 use plexil::Checked;
 use plexil::Counts;

@@ -1,7 +1,7 @@
 // Rule 12: what a node's expressions reach. The walks go down with the remaining depth falling, and up to node 0.
-use crate::conditions::all;
-use crate::found::Found;
 use plexil::Condition;
+use records::Found;
+use records::all_conditions;
 ghost use mathlib.Core.Path.{_≡_};
 ghost use mathlib.Core.List.{[], _∷_};
 ghost use lib.Dec.{eqb};
@@ -9,7 +9,7 @@ ghost use Rattle.plexil.specs.declared.Rule.the-variants as rule;
 ghost use Rattle.plexil.specs.Lists.{every, some};
 ghost use Rattle.plexil.specs.Image.{default, conditionField, valueField, what};
 ghost use Rattle.plexil.specs.Scope.{isAbove, inScope, treeInScope, givenPass, assigns, goodReach};
-ghost use Rattle.admit.specs.Broken.{foundOf, lowestBroken};
+ghost use Rattle.records.specs.Broken.{foundOf, lowestBroken};
 
 // The owner is node i or above it; the walk goes up at most `left` nodes.
 fn is_above(image: &[u8], left: u32, owner: u16, i: u16) -> bool
@@ -78,7 +78,7 @@ fn condition_in_scope(image: &[u8], i: u16, c: Condition) -> bool
 fn conditions_in_scope(image: &[u8], i: u16) -> bool
     ensures { λ r. ⌜ r ≡ givenPass (now (image .entry)) i (treeInScope (now (image .entry)) i 12) ⌝ }
 {
-    all(
+    all_conditions(
         condition_in_scope(image, i, Condition::Skip),
         condition_in_scope(image, i, Condition::Start),
         condition_in_scope(image, i, Condition::Pre),

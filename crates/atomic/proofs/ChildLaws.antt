@@ -1,5 +1,5 @@
 -- The pass over the children: after j nodes a row of flags has the answer of the nodes below j.
-use Prim.Native.Nat.{ℕ, zero, suc, _+_, _<_, _≤_}
+use Prim.Native.Nat.{ℕ, _+_, _<_, _≤_}
 use mathlib.Core.Path.{_≡_, refl, sym, ap, _∙_}
 use mathlib.Core.Logic.{⊎-elim}
 use mathlib.Core.Bool.{Bool, true, false, not, _&&_}
@@ -16,7 +16,8 @@ use Rattle.plexil.specs.Lists.{some, allBelow}
 use Rattle.plexil.specs.Image.{Image, nodeCount, parent}
 use Rattle.plexil.specs.Places.{statusAt}
 use Rattle.plexil.specs.Atomic.{children}
-use Rattle.plexil.proofs.ListLaws.{tested, same?, some-stop, some-cons, some-one}
+use Rattle.plexil.proofs.ListLaws.{same?, some-stop, some-cons, some-one}
+use Rattle.plexil.proofs.LoopLaws.{allBelow-more}
 
 -- node j is no child of i, or passes
 abbrev childPasses : Image → State → ℕ → (Status → Bool) → ℕ → Bool
@@ -25,14 +26,6 @@ childPasses p s i f j = some (not (eqb (parent p j) i) ∷ f (statusAt s j) ∷ 
 pub record Row (p : Image) (st : List ℕ) (f : Status → Bool) (j : ℕ) (l : List Bool) : Type 0 where
   pub long : length l ≡ 256
   pub right : (s : State) → s .status ≡ st → (i : ℕ) → i < 256 → getD l i false ≡ allBelow j (childPasses p s i f)
-
-allBelow-more : (n : ℕ) (f : ℕ → Bool) → allBelow (suc n) f ≡ (f n && allBelow n f)
-unfolding allBelow
-allBelow-more n f = by (f n) refl
-  where
-    by : (b : Bool) → f n ≡ b → allBelow (suc n) f ≡ (f n && allBelow n f)
-    by true e = rw (e, allBelow)
-    by false e = rw (e, allBelow)
 
 and-comm : (a b : Bool) → (a && b) ≡ (b && a)
 and-comm true true = refl

@@ -1,4 +1,4 @@
--- Laws that the rules' proofs share: a condition by what evaluation answers, and a node's type by its record.
+-- Laws that the rules' proofs share: a condition by what evaluation answers, a mark by its array, and the first rule that applies.
 use Prim.Native.Nat.{ℕ}
 use mathlib.Core.Path.{_≡_, refl, sym, ap, _∙_}
 use mathlib.Core.List.{List, [], _∷_}
@@ -11,15 +11,15 @@ use Rattle.plexil.specs.declared.Move.the-variants.{Go}
 use Rattle.plexil.specs.declared.Effect.the-variants.{Cleared}
 use Rattle.plexil.specs.Lists.{if_then_else_, every}
 use Rattle.plexil.specs.Places.{same, statusAt, markAt}
-use Rattle.plexil.proofs.ListLaws.{if-true, if-false}
+use Rattle.plexil.proofs.ListLaws.{if-true, if-false, stands}
+use Rattle.plexil.proofs.TestLaws.{eq-yes, eq-no}
 use mathlib.Core.Bool.{Bool, true, false, not}
 use lib.Dec.{eqb}
-use borrow.Author.Tests.{eq-eqb, ne-eqb}
 use Rattle.plexil.specs.declared.State.{State}
 use Rattle.plexil.specs.declared.Condition.{Condition}
 use Rattle.plexil.specs.Values.{isTrue, isFalse}
-use Rattle.plexil.specs.Image.{Image, nodeType}
-use Rattle.plexil.specs.Atomic.{isOff, parentStatus, condition, defaultOf, holds, fails, byStatus, moveBy, moveOf}
+use Rattle.plexil.specs.Image.{Image}
+use Rattle.plexil.specs.Atomic.{isOff, parentStatus, defaultOf, holds, fails, byStatus, moveBy, moveOf}
 use Rattle.evaluate.specs.Condition.{conditionOr}
 use Rattle.evaluate.proofs.Laws.{condition-or}
 
@@ -31,12 +31,6 @@ pub fails-is : (p : Image) (s : State) (i : ℕ) (c : Condition) (d : Bool) {b :
 unfolding fails
 fails-is p s i c d e h = ap isFalse (condition-or p s i c ∙ ap (conditionOr p s i c) (sym e)) ∙ sym h
 
-pub type-is : (p : Image) (i n : ℕ) {k : ℕ} → k ≡ nodeType p i → k ≡ n → eqb (nodeType p i) n ≡ true
-type-is p i n e h = eq-eqb _ _ (sym e ∙ h)
-
-pub type-not : (p : Image) (i n : ℕ) {k : ℕ} → k ≡ nodeType p i → (k ≡ n → ⊥) → eqb (nodeType p i) n ≡ false
-type-not p i n e h = ne-eqb _ _ (λ g. h (e ∙ g))
-
 pub inv-default : (p : Image) (s : State) (i : ℕ) → true ≡ defaultOf p s i Inv
 unfolding defaultOf
 inv-default p s i = refl
@@ -44,13 +38,13 @@ inv-default p s i = refl
 -- ---- a mark as an array tells it
 pub mark-is : (s : State) (i : ℕ) {mk : List ℕ} {m : ℕ} → s .mark ≡ mk → m ≡ getD mk i 0 → m ≡ markAt s i
 unfolding markAt
-mark-is s i e h = h ∙ ap (λ (l : List ℕ). getD l i 0) (sym e)
+mark-is s i e h = stands (s .mark) i e h
 
 pub unmarked : (s : State) (i : ℕ) {mk : List ℕ} {m : ℕ} → s .mark ≡ mk → m ≡ getD mk i 0 → m ≡ 0 → eqb (markAt s i) 0 ≡ true
-unmarked s i e h z = eq-eqb _ _ (sym (mark-is s i e h) ∙ z)
+unmarked s i e h z = eq-yes (mark-is s i e h) refl z
 
 pub marked : (s : State) (i : ℕ) {mk : List ℕ} {m : ℕ} → s .mark ≡ mk → m ≡ getD mk i 0 → (m ≡ 0 → ⊥) → eqb (markAt s i) 0 ≡ false
-marked s i e h z = ne-eqb _ _ (λ g. z (mark-is s i e h ∙ g))
+marked s i e h z = eq-no (mark-is s i e h) refl z
 
 -- ---- the first rule that applies
 module _ (p : Image) (s : State) (i : ℕ) {own u : Status} {b : Bool} (a : own ≡ statusAt s i) (e : u ≡ parentStatus p s i)

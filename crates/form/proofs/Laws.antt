@@ -1,43 +1,22 @@
--- What the proofs of the form share: tests one after the other, a loop over the numbers below n, a loop over the places from n on.
+-- What the proofs of the form share: tests in two parts, a loop over the places from n on, cells by their kind.
 use Prim.Native.Nat.{ℕ, zero, suc, _+_, _-_, _≤_, _<_}
 use mathlib.Core.Path.{_≡_, refl, sym, ap, _∙_}
 use mathlib.Core.Bool.{Bool, true, false}
 use mathlib.Core.List.{List, [], _∷_, _++_}
 use native.Mathlib.Omega.{arith}
 use native.Mathlib.Numerals.{add-one}
-use lib.Dec.{eqb, ltb}
+use lib.Dec.{eqb}
 use lib.ListN.{getD, length, drop, drop-of-length-le}
 use lib.Seq.{drop-cons}
-use borrow.Author.Tests.{eq-eqb, ne-eqb, lt-ltb, le-ltb}
+use borrow.Author.Tests.{eq-eqb, ne-eqb}
 use Rattle.plexil.specs.declared.Cell.{Cell}
-use Rattle.plexil.specs.Lists.{if_then_else_, every, some, allBelow, allIn}
+use Rattle.plexil.specs.Lists.{if_then_else_, every, allIn}
 use Rattle.plexil.specs.Values.{goodBits}
 use Rattle.plexil.specs.Form.{zeroFrom, goodCell, hasKind}
-use Rattle.plexil.proofs.ListLaws.{not-both, every-false, every-nil, every-cons, every-one, some-cons, some-stop, some-one, allBelow-not}
+use Rattle.plexil.proofs.TestLaws.{told}
+use Rattle.plexil.proofs.ListLaws.{if-same, not-both, every-nil}
 
--- ---- tests one after the other, r being the answer
-pub told : {r b t : Bool} → r ≡ b → r ≡ t → b ≡ t
-told e h = sym e ∙ h
-
-pub one-fails : (bs : List Bool) (k : ℕ) → getD bs k true ≡ false → false ≡ every bs
-one-fails bs k h = sym (every-false bs k h)
-
-pub and-then : (b : Bool) (bs : List Bool) {r : Bool} → b ≡ true → r ≡ every bs → r ≡ every (b ∷ bs)
-and-then b bs e h = h ∙ sym (every-cons b bs e)
-
-pub and-last : (b : Bool) {r : Bool} → r ≡ b → r ≡ every (b ∷ [])
-and-last b h = h ∙ sym (every-one b)
-
-pub one-passes : (b : Bool) (bs : List Bool) → b ≡ true → true ≡ some (b ∷ bs)
-one-passes b bs e = sym (some-stop b bs e)
-
-pub or-else : (b : Bool) (bs : List Bool) {r : Bool} → b ≡ false → r ≡ some bs → r ≡ some (b ∷ bs)
-or-else b bs e h = h ∙ sym (some-cons b bs e)
-
-pub or-last : (b : Bool) {r : Bool} → r ≡ b → r ≡ some (b ∷ [])
-or-last b h = h ∙ sym (some-one b)
-
--- the same tests in two parts
+-- ---- tests one after the other in two parts
 pub part-fails : (bs cs : List Bool) → every bs ≡ false → false ≡ every (bs ++ cs)
 unfolding every if_then_else_
 part-fails [] cs h = absurd (not-both _ every-nil h)
@@ -52,41 +31,7 @@ part-then (false ∷ bs) cs e h = absurd (not-both _ e refl)
 
 -- one test that decides, inside tests that pass
 pub decides : (b : Bool) → b ≡ (if (if b then true else false) then true else false)
-unfolding if_then_else_
-decides true = refl
-decides false = refl
-
--- ---- tests of a number y, of which the code has x
-pub is-num : {x y : ℕ} (n : ℕ) → x ≡ y → x ≡ n → eqb y n ≡ true
-is-num n e h = eq-eqb _ n (sym e ∙ h)
-
-pub not-num : {x y : ℕ} (n : ℕ) → x ≡ y → (x ≡ n → ⊥) → eqb y n ≡ false
-not-num n e h = ne-eqb _ n (λ q. h (e ∙ q))
-
-pub below-num : {x y : ℕ} (n : ℕ) → x ≡ y → x < n → ltb y n ≡ true
-below-num n e h = lt-ltb _ n (omega arith)
-
-pub past-num : {x y : ℕ} (n : ℕ) → x ≡ y → n ≤ x → ltb y n ≡ false
-past-num n e h = le-ltb _ n (omega arith)
-
--- what the code read at place i of an array is what stands there in the state that has the array
-pub stands : (l : List ℕ) {array : List ℕ} (i : ℕ) {x : ℕ} → l ≡ array → x ≡ getD array i 0 → x ≡ getD l i 0
-stands l i q e = e ∙ ap (λ (k : List ℕ). getD k i 0) (sym q)
-
--- ---- a loop over the numbers below n: those below i pass
-pub all-none : (f : ℕ → Bool) → allBelow 0 f ≡ true
-unfolding allBelow
-all-none f = refl
-
-pub all-next : (i : ℕ) (f : ℕ → Bool) → allBelow i f ≡ true → f i ≡ true → allBelow (i + 1) f ≡ true
-unfolding allBelow
-all-next i f h e = rw (add-one, e, allBelow) h
-
-pub all-end : {n i : ℕ} (m : ℕ) (f : ℕ → Bool) → n ≡ m → i ≤ n → n ≤ i → allBelow i f ≡ true → true ≡ allBelow m f
-all-end {n} {i} m f e a b h = sym h ∙ ap (λ (k : ℕ). allBelow k f) (omega arith)
-
-pub all-fails : {n : ℕ} (i m : ℕ) (f : ℕ → Bool) → n ≡ m → i < n → f i ≡ false → false ≡ allBelow m f
-all-fails {n} i m f e b h = sym (allBelow-not m f i (omega arith) h)
+decides b = sym (if-same (if b then true else false) ∙ if-same b)
 
 -- ---- a loop over the places from n on: those before k hold 0
 abbrev isZero : ℕ → Bool

@@ -3,7 +3,6 @@ use Prim.Native.Nat.{ℕ, zero, suc, _+_, _*_, _≤_, _<_, _-_}
 use mathlib.Core.Path.{_≡_, refl, sym, ap, _∙_}
 use mathlib.Core.List.{List, [], _∷_, _++_, append-assoc, append-nil}
 use native.Mathlib.Omega.{arith}
-use native.Mathlib.Numerals.{add-one}
 use lib.ListN.{length, getD, drop, set, length-append}
 use lib.Seq.{drop-cons, set-at}
 use Rattle.plexil.specs.Lists.{put}
@@ -68,10 +67,6 @@ word-abort i (suc zero) h g = absurd (g refl)
 word-abort i (suc (suc w)) h g = refl
 
 -- ---- the list's part
-pub put-none : (l : List ℕ) → l ≡ put l 0 []
-unfolding put
-put-none l = refl
-
 pub put-one : (l ws : List ℕ) (x k : ℕ) → k ≡ length ws → k < length l → set (put l 0 ws) k x ≡ put l 0 (ws ++ (x ∷ []))
 unfolding put
 put-one l ws x k e h =

@@ -4,10 +4,12 @@ pub mod PutLaws
 pub mod RunCourse
 pub mod ReplyLaws
 pub mod TestLaws
+pub mod LoopLaws
 pub mod Statuses
 pub mod KnownEnds
 pub mod Exactness
 pub mod Admitted
+pub mod OperatorNumbers
 pub mod OperatorKinds
 pub mod EntryKinds
 pub mod ClashExact

@@ -24,7 +24,7 @@ use Rattle.plexil.proofs.StepKept.{step-kept}
 use Rattle.plexil.proofs.SizesKept.{fresh-sized, iterate-sized, entered-sized}
 
 -- ---- state and card
-kept-of : (p : Image) (s : State) (c : Card) → goodKept p s c ≡ true → IsKept p s
+pub kept-of : (p : Image) (s : State) (c : Card) → goodKept p s c ≡ true → IsKept p s
 unfolding goodKept
 kept-of p s c g = every-at _ 0 g
 

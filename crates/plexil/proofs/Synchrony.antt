@@ -4,8 +4,6 @@ use mathlib.Core.Path.{_≡_, refl, sym, ap, _∙_, subst}
 use mathlib.Core.Logic.{_⊎_, inl, inr, ⊎-elim}
 use mathlib.Core.Bool.{Bool, true, false}
 use native.Mathlib.Omega.{arith}
-use lib.Dec.{ltb}
-use borrow.Author.Tests.{ltb-true, ltb-false, eqb-true, eq-eqb, not-true}
 use Rattle.plexil.specs.declared.Cell.{Cell}
 use Rattle.plexil.specs.declared.State.{State}
 use Rattle.plexil.specs.declared.Place.{Place}
@@ -13,15 +11,15 @@ use Rattle.plexil.specs.declared.Status.{Status}
 use Rattle.plexil.specs.declared.Effect.{Effect}
 use Rattle.plexil.specs.declared.Move.{Move}
 use Rattle.plexil.specs.declared.Move.the-variants.{Stay, Go}
-use Rattle.plexil.specs.Lists.{if_then_else_, every}
-use Rattle.plexil.specs.Image.{Image, nodeCount, priority, what, owner}
+use Rattle.plexil.specs.Lists.{if_then_else_}
+use Rattle.plexil.specs.Image.{Image, nodeCount, what, owner}
 use Rattle.plexil.specs.Places.{outcomeAt, failureAt, markAt, varCell, initial}
 use Rattle.plexil.specs.Atomic.{moveOf}
 use Rattle.plexil.specs.Micro.{judges, writes, loses, placeBy, place, outcomeAfter, failureAfter, entersWaiting, unwritten, varAfter, wins}
-use Rattle.plexil.specs.Promises.{Writer, Sole}
+use Rattle.plexil.specs.Promises.{Sole}
 use Rattle.plexil.specs.Framework.{Environment, Program, joined, placeAt, cellAt, Atomic, Loser, lost, NodeAfter, MemoryAfter, enters, returns}
 use Rattle.plexil.proofs.ListLaws.{tested, not-both, same?, every-at, every-false, every-stop}
-use Rattle.plexil.proofs.Writers.{sole-keeps, others-lose, varAfter-sole, varAfter-unwritten}
+use Rattle.plexil.proofs.Writers.{sole-keeps, others-lose, wins-sole, sole-wins, varAfter-sole, varAfter-unwritten}
 
 -- what the step makes of node i's place
 abbrev pub stepped : Image → State → ℕ → Place
@@ -55,32 +53,15 @@ module _ (p : Image) (s : State) where
   unfolding outcomeAfter failureAfter if_then_else_
   settled-kept i h = rw h
 
-  -- a writer of v that does not lose is the sole one
-  kept-sole : (v i : ℕ) → Writer p s v i → loses p s i ≡ false → Sole p s v i
-  kept-sole v i w h = record { writer = w; greatest = λ j wj apart. ⊎-elim (ltb-true _ _) (above j wj apart) (tested (ltb (priority p j) (priority p i))) }
-    where
-      above : (j : ℕ) → Writer p s v j → (j ≡ i → ⊥) → ltb (priority p j) (priority p i) ≡ false → priority p j < priority p i
-      above j wj apart t =
-          absurd (not-both _ (others-lose p s v i w (λ sole. omega (arith, ltb-false (priority p j) (priority p i) t, sole .greatest j wj apart))) h)
-
-  wins-sole : (v i : ℕ) → i < nodeCount p → wins p s v i ≡ true → Sole p s v i
-  unfolding wins
-  wins-sole v i b h =
-      kept-sole v i (record { within = b; target = eqb-true _ _ (every-at _ 0 h); writing = every-at _ 1 h }) (not-true _ (every-at _ 2 h))
-
-  sole-wins : (v i : ℕ) → Sole p s v i → wins p s v i ≡ true
-  unfolding wins every if_then_else_
-  sole-wins v i sole = rw (eq-eqb _ _ (sole .writer .target), sole .writer .writing, sole-keeps p s v i sole)
-
   -- variable v has a sole writer among the nodes below n, or none
   none-more : (v n : ℕ) → wins p s v n ≡ false → ((i : ℕ) → i < n → Sole p s v i → ⊥) → (i : ℕ) → i < suc n → Sole p s v i → ⊥
   none-more v n h none i b sole =
-      ⊎-elim (λ (e : i ≡ n). not-both _ (sole-wins v i sole) (rw e h)) (λ apart. none i (omega arith) sole) (same? i n)
+      ⊎-elim (λ (e : i ≡ n). not-both _ (sole-wins p s v i sole) (rw e h)) (λ apart. none i (omega arith) sole) (same? i n)
 
   sole? : (v n : ℕ) → n ≤ nodeCount p → ((i : ℕ) × Sole p s v i) ⊎ ((i : ℕ) → i < n → Sole p s v i → ⊥)
   sole? v zero m = inr (λ i b. absurd (omega arith))
   sole? v (suc n) m =
-      ⊎-elim (λ h. inl (n, wins-sole v n m h)) (λ h. ⊎-elim inl (λ none. inr (none-more v n h none)) (sole? v n (omega arith))) (tested (wins p s v n))
+      ⊎-elim (λ h. inl (n, wins-sole p s v n m h)) (λ h. ⊎-elim inl (λ none. inr (none-more v n h none)) (sole? v n (omega arith))) (tested (wins p s v n))
 
 -- ---- a node
 module _ (p : Image) (Γ : Environment) (π : Program) (i : ℕ) (b : i < nodeCount p) where

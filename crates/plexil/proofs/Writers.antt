@@ -61,12 +61,12 @@ module _ (p : Image) (s : State) where
       by (inr apart) = absurd (omega (arith, b .greatest i (a .writer) apart, a .greatest j (b .writer) (λ e. apart (sym e))))
 
   -- ---- the winner is the sole one
-  wins-sole : (v i : ℕ) → i < nodeCount p → wins p s v i ≡ true → Sole p s v i
+  pub wins-sole : (v i : ℕ) → i < nodeCount p → wins p s v i ≡ true → Sole p s v i
   unfolding wins
   wins-sole v i b h =
       keeps-sole v i (record { within = b; target = eqb-true _ _ (every-at _ 0 h); writing = every-at _ 1 h }) (not-true _ (every-at _ 2 h))
 
-  sole-wins : (v i : ℕ) → Sole p s v i → wins p s v i ≡ true
+  pub sole-wins : (v i : ℕ) → Sole p s v i → wins p s v i ≡ true
   unfolding wins every if_then_else_
   sole-wins v i sole = rw (eq-eqb _ _ (sole .writer .target), sole .writer .writing, sole-keeps v i sole)
 

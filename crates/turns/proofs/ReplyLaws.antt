@@ -27,8 +27,7 @@ use Rattle.plexil.specs.Quiescence.{run}
 use Rattle.plexil.specs.Form.{goodKept}
 use Rattle.plexil.specs.Macro.{entered, entryCount, cardAfter}
 use Rattle.plexil.specs.Replies.{numbered, takeNumber, checkedBy, checkReply, startedBy, freshReply, RunReply, notRun, hasRun, ranBy, runReply, takenBy, takeAnswer, takeReply}
-use Rattle.plexil.specs.Promises.{IsKept}
-use Rattle.plexil.proofs.ListLaws.{if-true, if-false, every-at}
+use Rattle.plexil.proofs.ListLaws.{if-true, if-false}
 use Rattle.plexil.proofs.ReplyLaws.{rule-range}
 use Rattle.turns.specs.Ended.{unrun}
 
@@ -96,7 +95,3 @@ module _ (p : Image) (s : State) (c : Card) (n : ℕ) (l : List ℕ) (k : ℕ) w
     pub run-goes : ltb (length l) k ≡ false → hasRun c (run p s n l k) ≡ ranBy Admitted p s c n l k
     unfolding ranBy
     run-goes t = sym (if-true _ _ _ g ∙ if-false _ _ _ t)
-
-pub state-kept : (p : Image) (s : State) (c : Card) → goodKept p s c ≡ true → IsKept p s
-unfolding goodKept
-state-kept p s c h = every-at _ 0 h

@@ -1,9 +1,8 @@
 -- One visit in parts: the node's place put, and its write met.
-use Prim.Native.Nat.{ℕ, suc, _+_, _<_}
+use Prim.Native.Nat.{ℕ, _+_, _<_}
 use native.Mathlib.Numerals.{add-one}
-use lib.ListN.{length, set}
 use mathlib.Core.Path.{_≡_, refl, sym, ap, _∙_}
-use mathlib.Core.Bool.{Bool, true, false, not, _||_}
+use mathlib.Core.Bool.{Bool, true, false, not, _&&_, _||_}
 use mathlib.Core.List.{List, [], _∷_}
 use Rattle.plexil.specs.declared.Cell.{Cell}
 use Rattle.plexil.specs.declared.State.{State}
@@ -20,7 +19,8 @@ use Rattle.plexil.specs.Micro.{judges, writes, written, placeBy, place, sentBy,
 use Rattle.plexil.specs.Order.{Carry, putPlace, meet, visit}
 use Rattle.plexil.specs.Promises.{IsAdmitted, IsKept}
 use Rattle.plexil.proofs.ListLaws.{if-true, if-false, every-at, allBelow-not}
-use Rattle.plexil.proofs.RenewLaws.{renew-next}
+use Rattle.plexil.proofs.RenewLaws.{whole}
+use Rattle.plexil.proofs.LoopLaws.{all-next, allBelow-more}
 use Rattle.plexil.proofs.AnyOrder.{fits}
 use Rattle.plexil.proofs.NodeOrder.{walkTo, walkTo-next}
 
@@ -66,23 +66,13 @@ written-is p s i a b d = d ∙ ap encode (b ∙ ap (valueOf p s) a)
 
 -- ---- the walk
 pub allBelow-or : (n : ℕ) (f : ℕ → Bool) (a b : Bool) → a ≡ not (allBelow n f) → b ≡ not (f n) → (a || b) ≡ not (allBelow (n + 1) f)
-unfolding allBelow
-allBelow-or n f a b h g = rw (h, g, add-one) (by (f n) refl)
+allBelow-or n f a b h g = rw (h, g, add-one, allBelow-more) (by (allBelow n f) (f n))
   where
-    by : (t : Bool) → f n ≡ t → (not (allBelow n f) || not (f n)) ≡ not (allBelow (suc n) f)
-    by true e = rw (e, allBelow) (or-false (not (allBelow n f)))
-      where
-        or-false : (x : Bool) → (x || false) ≡ x
-        or-false true = refl
-        or-false false = refl
-    by false e = rw (e, allBelow) (or-true (not (allBelow n f)))
-      where
-        or-true : (x : Bool) → (x || true) ≡ true
-        or-true true = refl
-        or-true false = refl
-
-pub sent-next : (n : ℕ) (f : ℕ → ℕ) (l old l₂ : List ℕ) → n < length old → l ≡ renew n f old → l₂ ≡ set l n (f n) → l₂ ≡ renew (n + 1) f old
-sent-next n f l old l₂ b e h = h ∙ (ap (λ (m : List ℕ). set m n (f n)) e ∙ renew-next n f old 0 b)
+    by : (x y : Bool) → (not x || not y) ≡ not (y && x)
+    by true true = refl
+    by true false = refl
+    by false true = refl
+    by false false = refl
 
 pub walk-next : (p : Image) (s : State) (c₀ : Carry) (n : ℕ) {c c₂ : Carry} → c ≡ walkTo p s c₀ n → c₂ ≡ visit p s c n → c₂ ≡ walkTo p s c₀ (n + 1)
 walk-next p s c₀ n e h = h ∙ (ap (λ (x : Carry). visit p s x n) e ∙ sym (walkTo-next p s c₀ n))
@@ -92,7 +82,7 @@ pub walk-end : (p : Image) (s : State) (c₀ : Carry) (sent₀ : List ℕ) (i : 
     → moved ≡ not (allBelow i (λ (k : ℕ). stays (moveOf p s k))) → c ≡ walkTo p s c₀ i → l ≡ renew i (sent p s) sent₀
     → (moved ≡ not (allBelow (nodeCount p) (λ (k : ℕ). stays (moveOf p s k)))) × (c ≡ walkTo p s c₀ (nodeCount p)) × (l ≡ renew (nodeCount p) (sent p s) sent₀)
 walk-end p s c₀ sent₀ i e a b d =
-    (a ∙ ap (λ (n : ℕ). not (allBelow n (λ (k : ℕ). stays (moveOf p s k)))) e, b ∙ ap (walkTo p s c₀) e, d ∙ ap (λ (n : ℕ). renew n (sent p s) sent₀) e)
+    (a ∙ ap (λ (n : ℕ). not (allBelow n (λ (k : ℕ). stays (moveOf p s k)))) e, b ∙ ap (walkTo p s c₀) e, whole i (sent p s) sent₀ _ d e)
 
 -- ---- a pass in which every node has stayed
 module _ (p : Image) (s : State) (i : ℕ) {m : Move} (e : m ≡ moveOf p s i) {b : Bool} (h : b ≡ not (stays m)) where
@@ -107,8 +97,7 @@ module _ (p : Image) (s : State) (i : ℕ) {m : Move} (e : m ≡ moveOf p s i) {
   none-below t l = sym (allBelow-not (nodeCount p) _ i l (stay-is ∙ ap not t))
 
   pub stay-below : b ≡ false → allBelow i (λ (k : ℕ). stays (moveOf p s k)) ≡ true → allBelow (i + 1) (λ (k : ℕ). stays (moveOf p s k)) ≡ true
-  unfolding allBelow
-  stay-below t a = rw (add-one, stay-is ∙ ap not t, allBelow) a
+  stay-below t a = all-next i _ a (stay-is ∙ ap not t)
 
 pub all-below : (p : Image) (s : State) {i : ℕ} → i ≡ nodeCount p → allBelow i (λ (k : ℕ). stays (moveOf p s k)) ≡ true → true ≡ allBelow (nodeCount p) (λ (k : ℕ). stays (moveOf p s k))
 all-below p s e a = sym (ap (λ (n : ℕ). allBelow n (λ (k : ℕ). stays (moveOf p s k))) (sym e) ∙ a)

@@ -2,7 +2,7 @@
 use mathlib.Core.Path.{refl}
 use borrow.Author.Tests.{eq-eqb, ne-eqb}
 use Rattle.plexil.specs.Macro.{eventAnswer}
-use Rattle.form.proofs.Laws.{told, is-num, not-num}
+use Rattle.plexil.proofs.TestLaws.{told, eq-yes, eq-no}
 use Rattle.events.proofs.Laws.{refused, goes-on}
 use Rattle.events.proofs.event_answer.Statement.{statement}
 use Rattle.events.proofs.event_answer.Tie as tie
@@ -17,10 +17,10 @@ event-answer-spec =
     (λ _ _. tt)
     (λ c. goes-on _ _ _ (eq-eqb _ _ (c .before .before .before .before .before .if1 .left))
     (goes-on _ _ _ (told (c .before .before .before .before .good-shape .ensures) (c .before .before .before .if2 .taken))
-    (refused _ _ _ (not-num _ (c .before .before .event-serial .ensures) (c .if3 .taken)))))
+    (refused _ _ _ (eq-no (c .before .before .event-serial .ensures) refl (c .if3 .taken)))))
     (λ _ _. tt)
     (λ c. goes-on _ _ _ (eq-eqb _ _ (c .before .before .before .before .before .before .before .before .before .before .before .if1 .left))
     (goes-on _ _ _ (told (c .before .before .before .before .before .before .before .before .before .before .good-shape .ensures) (c .before .before .before .before .before .before .before .before .before .if2 .taken))
-    (goes-on _ _ _ (is-num _ (c .before .before .before .before .before .before .before .before .event-serial .ensures) (c .before .before .before .before .before .before .if3 .left))
+    (goes-on _ _ _ (eq-yes (c .before .before .before .before .before .before .before .before .event-serial .ensures) refl (c .before .before .before .before .before .before .if3 .left))
     (c .entries-answer .ensures _ refl refl))))
     (λ c. goes-on _ _ _ (eq-eqb _ _ (c .before .before .if1 .left)) (refused _ _ _ (told (c .before .good-shape .ensures) (c .if2 .left)))))

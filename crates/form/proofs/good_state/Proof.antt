@@ -2,7 +2,7 @@
 use mathlib.Core.Path.{refl}
 use Rattle.plexil.specs.Places.{varCell, lookCell}
 use Rattle.plexil.specs.Form.{goodState}
-use Rattle.form.proofs.Laws.{told, one-fails, and-then, and-last}
+use Rattle.plexil.proofs.TestLaws.{told, one-fails, and-then, and-last}
 use Rattle.form.proofs.good_state.Statement.{statement}
 use Rattle.form.proofs.good_state.Tie as tie
 
@@ -15,10 +15,10 @@ good-state-spec =
     (λ _ _. tt)
     (λ _ _. tt)
     (λ _ _. tt)
-    (λ c. and-then _ _ (told (c .before .before .before .before .before .before .before .before .before .before .before .before .before .before .before .before .good-places .ensures _ refl refl refl refl) (c .before .before .before .before .before .before .before .before .before .before .before .before .before .before .before .if1 .taken))
-    (and-then _ _ (told (c .before .before .before .before .before .before .before .before .before .good-vars .ensures) (c .before .before .before .before .before .before .before .before .if2 .taken))
-    (and-then _ _ (told (c .before .before .good-looks .ensures) (c .before .if3 .taken))
-    (and-last _ (c .unused-empty .ensures)))))
+    (λ c. and-then _ (told (c .before .before .before .before .before .before .before .before .before .before .before .before .before .before .before .before .good-places .ensures _ refl refl refl refl) (c .before .before .before .before .before .before .before .before .before .before .before .before .before .before .before .if1 .taken))
+    (and-then _ (told (c .before .before .before .before .before .before .before .before .before .good-vars .ensures) (c .before .before .before .before .before .before .before .before .if2 .taken))
+    (and-then _ (told (c .before .before .good-looks .ensures) (c .before .if3 .taken))
+    (and-last (c .unused-empty .ensures)))))
     (λ c. one-fails _ 2 (told (c .before .good-looks .ensures) (c .if3 .left)))
     (λ c. one-fails _ 1 (told (c .before .good-vars .ensures) (c .if2 .left)))
     (λ c. one-fails _ 0 (told (c .before .good-places .ensures _ refl refl refl refl) (c .if1 .left))))

@@ -1,9 +1,8 @@
 -- After i nodes what is carried is the walk's as far as i; what is left of the nodes falls.
 use Rattle.visit.proofs.CarryLaws.{walk-end}
-use borrow.Author.Needs.{needs}
 use native.Mathlib.Omega.{arith}
 use Prim.Native.Nat.{ℕ, _≤_, _-_}
-use mathlib.Core.Path.{_≡_, refl, sym, ap, _∙_}
+use mathlib.Core.Path.{_≡_, refl, sym, _∙_}
 use mathlib.Core.Bool.{not}
 use Rattle.plexil.specs.Lists.{allBelow, renew}
 use Rattle.plexil.specs.Places.{stateOf}
@@ -11,10 +10,10 @@ use Rattle.plexil.specs.Image.{nodeCount}
 use Rattle.plexil.specs.Atomic.{moveOf}
 use Rattle.plexil.specs.Micro.{sent as sentOf, stays}
 use Rattle.plexil.proofs.Admitted.{few-nodes}
-use Rattle.plexil.proofs.RenewLaws.{renew-none}
+use Rattle.plexil.proofs.RenewLaws.{renew-none, stored}
 use Rattle.plexil.proofs.NodeOrder.{walkTo, walkTo-zero}
 use Rattle.visit.specs.Carried.{carryOf}
-use Rattle.visit.proofs.CarryLaws.{allBelow-or, sent-next, walk-next}
+use Rattle.visit.proofs.CarryLaws.{allBelow-or, walk-next}
 use Rattle.visit.proofs.walk.Statement.{statement}
 use Rattle.visit.proofs.walk.Tie as tie
 
@@ -55,7 +54,7 @@ loop-again c = (
   omega arith,
   allBelow-or _ _ _ _ (c .before .before .before .before .before .before .before .before .before .before .before .before .before .before .loop .inv .1) (c .visit-node .ensures .0),
   walk-next _ _ _ _ (c .before .before .before .before .before .before .before .before .before .before .before .before .before .before .loop .inv .2) (c .visit-node .ensures .1),
-  sent-next _ _ _ _ _ (omega (arith, few-nodes _ (c .before .before .before .before .before .before .before .before .before .before .before .before .before .before .before .before .before .before .before .before .before .before .before .before .pre .0), c .before .before .before .before .before .before .before .before .before .before .before .before .before .before .before .before .before .before .before .before .before .before .before .before .pre .2, c .before .before .before .before .before .before .before .before .before .before .before .before .before .before .before .before .before .before .before .before .before .before .before .before .pre .3)) (c .before .before .before .before .before .before .before .before .before .before .before .before .before .before .loop .inv .3) (c .visit-node .ensures .2),
+  c .visit-node .ensures .2 ∙ stored _ _ _ _ (c .before .before .before .before .before .before .before .before .before .before .before .before .before .before .loop .inv .3) (omega (arith, few-nodes _ (c .before .before .before .before .before .before .before .before .before .before .before .before .before .before .before .before .before .before .before .before .before .before .before .before .pre .0), c .before .before .before .before .before .before .before .before .before .before .before .before .before .before .before .before .before .before .before .before .before .before .before .before .pre .2, c .before .before .before .before .before .before .before .before .before .before .before .before .before .before .before .before .before .before .before .before .before .before .before .before .pre .3)) refl,
 )
 
 returns : tie.Need-returns Inv-loop μ-loop

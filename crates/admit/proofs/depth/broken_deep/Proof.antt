@@ -11,12 +11,12 @@ use Rattle.admit.proofs.Ordered.{few}
 use Rattle.admit.proofs.DepthTable.{filled-start, filled-next}
 use Rattle.plexil.specs.Scope.{shallow}
 use Rattle.plexil.specs.Check.{records, breaks}
-use Rattle.admit.proofs.Laws.{Upto, upto-start, upto-broken, upto-next, upto-end}
+use Rattle.plexil.proofs.LoopLaws.{Upto, upto-start, upto-found, upto-next, upto-end}
 use Rattle.admit.proofs.depth.broken_deep.Statement.{statement}
 use Rattle.admit.proofs.depth.broken_deep.Tie as tie
 
 abbrev Inv-loop : tie.InvT-loop
-Inv-loop image n depths₀ i₀ depths i = Upto rule.Deep image i × Filled image i depths
+Inv-loop image n depths₀ i₀ depths i = Upto (breaks rule.Deep image) (records rule.Deep image) i × Filled image i depths
 
 abbrev μ-loop : tie.MeasureT-loop
 μ-loop image n depths₀ i₀ depths i = n - i
@@ -29,9 +29,9 @@ broken-deep-spec =
     Inv-loop
     μ-loop
     (λ _ _. tt)
-    (λ c. (upto-start rule.Deep _, filled-start _ _ refl))
+    (λ c. (upto-start _ _, filled-start _ _ refl))
     (λ c κs. (c .before .before .before .before .before .pre, (rw (c .before .before .before .expr-count .ensures) at (c .before .loop-test .taken), c .before .before .loop .inv .1)))
-    (λ c. upto-broken (c .before .before .before .before .loop .inv .0) (c .before .before .before .before .before .expr-count .ensures) (c .before .before .before .loop-test .taken) (ap not (c .before .depth .ensures 12 ∙ lt-leb _ _ (c .if1 .taken))))
+    (λ c. upto-found (c .before .before .before .before .loop .inv .0) (c .before .before .before .before .before .expr-count .ensures) (c .before .before .before .loop-test .taken) (ap not (c .before .depth .ensures 12 ∙ lt-leb _ _ (c .if1 .taken))))
     (λ c. search needs)
     (λ c. omega (arith, few _ (c .before .before .before .before .before .before .before .pre), c .before .before .before .before .before .expr-count .ensures, c .before .before .before .loop-test .taken))
     (λ c. omega arith)

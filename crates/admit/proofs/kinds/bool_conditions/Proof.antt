@@ -27,4 +27,4 @@ bool-conditions-spec =
       c .before .before .bool-condition6 .ensures,
       c .before .bool-condition7 .ensures,
     ) at
-    (c .all .ensures)))
+    (c .all-conditions .ensures)))

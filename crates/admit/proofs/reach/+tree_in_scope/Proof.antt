@@ -4,7 +4,7 @@ use mathlib.Core.Path.{sym, _∙_}
 use native.Mathlib.Omega.{arith}
 use borrow.Fn.Kinds.{In}
 use borrow.Fn.PlainCycle.{Measures, is, falls, and}
-use Rattle.admit.proofs.Laws.{one-fails, passes, last}
+use Rattle.plexil.proofs.TestLaws.{one-fails, and-then, and-last}
 use Rattle.admit.proofs.Scope.{tree-none, tree-variable, tree-leaf, tree-no-operator, tree-not, tree-binary}
 use Rattle.admit.proofs.reach.tree_in_scope.Reads as tree
 use Rattle.admit.proofs.reach.tree_in_scope.Kinds as kinds
@@ -67,8 +67,8 @@ pub +tree-in-scope-spec : {M : Type 1} → statement M
     (λ _ _. tt)
     (λ c κs. (omega (arith, c .before .before .before .before .before .before .before .before .before .if1 .left, c .before .before .before .before .before .before .before .before .before .before .before .pre .0), tt))
     (λ c.
-    passes _ (sym (rw (c .before .before .before .before .before .before .before .operand-a .ensures) at (c .before .before .before .tree-in-scope2 .ensures)) ∙ c .before .before .if6 .taken)
-    (last (rw (c .before .operand-b .ensures) at (c .tree-in-scope3 .ensures)))
+    and-then _ (sym (rw (c .before .before .before .before .before .before .before .operand-a .ensures) at (c .before .before .before .tree-in-scope2 .ensures)) ∙ c .before .before .if6 .taken)
+    (and-last (rw (c .before .operand-b .ensures) at (c .tree-in-scope3 .ensures)))
     ∙ sym (tree-binary _ _ _ _ (c .before .before .before .before .before .before .before .before .before .before .if1 .left) (c .before .before .before .before .before .before .before .before .before .operator .ensures) (c .before .before .before .before .before .if4 .left) (c .before .before .before .before .if5 .left) (c .before .before .before .before .before .before .before .before .if2 .left)))
     (λ c.
     one-fails _ 0 (sym (rw (c .before .before .before .before .before .operand-a .ensures) at (c .before .tree-in-scope2 .ensures)) ∙ c .if6 .left)

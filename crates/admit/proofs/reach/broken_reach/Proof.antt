@@ -5,12 +5,12 @@ use native.Mathlib.Omega.{arith}
 use mathlib.Core.Bool.{not}
 use Rattle.plexil.specs.declared.Rule.the-variants as rule
 use Rattle.plexil.specs.Check.{records, breaks}
-use Rattle.admit.proofs.Laws.{Upto, upto-start, upto-broken, upto-next, upto-end}
+use Rattle.plexil.proofs.LoopLaws.{Upto, upto-start, upto-found, upto-next, upto-end}
 use Rattle.admit.proofs.reach.broken_reach.Statement.{statement}
 use Rattle.admit.proofs.reach.broken_reach.Tie as tie
 
 abbrev Inv-loop : tie.InvT-loop
-Inv-loop image n i₀ i = Upto rule.Reach image i
+Inv-loop image n i₀ i = Upto (breaks rule.Reach image) (records rule.Reach image) i
 
 abbrev μ-loop : tie.MeasureT-loop
 μ-loop image n i₀ i = n - i
@@ -23,10 +23,10 @@ broken-reach-spec =
     Inv-loop
     μ-loop
     (λ _ _. tt)
-    (λ c. upto-start rule.Reach _)
+    (λ c. upto-start _ _)
     (λ _ _. tt)
     (λ c. omega arith)
     (λ c. omega arith)
     (λ c. upto-next (c .before .before .before .loop .inv) (c .before .before .before .before .node-count .ensures) (c .before .before .loop-test .taken) (ap not (sym (c .before .good-reach .ensures) ∙ c .if1 .taken)))
-    (λ c. upto-broken (c .before .before .before .loop .inv) (c .before .before .before .before .node-count .ensures) (c .before .before .loop-test .taken) (ap not (sym (c .before .good-reach .ensures) ∙ c .if1 .left)))
+    (λ c. upto-found (c .before .before .before .loop .inv) (c .before .before .before .before .node-count .ensures) (c .before .before .loop-test .taken) (ap not (sym (c .before .good-reach .ensures) ∙ c .if1 .left)))
     (λ c. upto-end (c .before .loop .inv) (c .before .before .node-count .ensures) (c .loop-test .left)))

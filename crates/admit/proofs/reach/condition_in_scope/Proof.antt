@@ -1,6 +1,6 @@
 -- Default, or a tree in scope.
 use mathlib.Core.Path.{refl}
-use Rattle.admit.proofs.Laws.{eq-yes, eq-no, either-first, either-second}
+use Rattle.plexil.proofs.TestLaws.{one-passes, or-else, or-last, eq-yes, eq-no}
 use Rattle.admit.proofs.reach.condition_in_scope.Statement.{statement}
 use Rattle.admit.proofs.reach.condition_in_scope.Tie as tie
 
@@ -9,6 +9,6 @@ condition-in-scope-spec =
     tie.close
     (tie.spec
     (λ _ _. tt)
-    (λ c. either-first _ (eq-yes (c .before .condition-field .ensures) refl (c .if1 .taken)))
+    (λ c. one-passes _ (eq-yes (c .before .condition-field .ensures) refl (c .if1 .taken)))
     (λ _ _. tt)
-    (λ c. either-second (eq-no (c .before .before .condition-field .ensures) refl (c .before .if1 .left)) (rw (c .before .before .condition-field .ensures) at (c .tree-in-scope .ensures))))
+    (λ c. or-else _ (eq-no (c .before .before .condition-field .ensures) refl (c .before .if1 .left)) (or-last (rw (c .before .before .condition-field .ensures) at (c .tree-in-scope .ensures)))))

@@ -27,4 +27,4 @@ conditions-in-scope-spec =
       c .before .before .condition-in-scope6 .ensures,
       c .before .condition-in-scope7 .ensures,
     ) at
-    (c .all .ensures)))
+    (c .all-conditions .ensures)))

@@ -1,7 +1,7 @@
 -- The conditions, then the assignment.
 use mathlib.Core.Path.{sym, _∙_}
 use Rattle.plexil.specs.Scope.{goodReach}
-use Rattle.admit.proofs.Laws.{passes, last, one-fails}
+use Rattle.plexil.proofs.TestLaws.{one-fails, and-then, and-last}
 use Rattle.admit.proofs.reach.good_reach.Statement.{statement}
 use Rattle.admit.proofs.reach.good_reach.Tie as tie
 
@@ -12,5 +12,5 @@ good-reach-spec =
     (tie.spec
     (λ _ _. tt)
     (λ _ _. tt)
-    (λ c. passes _ (sym (c .before .before .conditions-in-scope .ensures) ∙ c .before .if1 .taken) (last (c .assignment-in-scope .ensures)))
+    (λ c. and-then _ (sym (c .before .before .conditions-in-scope .ensures) ∙ c .before .if1 .taken) (and-last (c .assignment-in-scope .ensures)))
     (λ c. one-fails _ 0 (sym (c .before .conditions-in-scope .ensures) ∙ c .if1 .left)))

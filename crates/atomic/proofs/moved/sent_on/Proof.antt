@@ -1,9 +1,10 @@
 -- By the node's type, the status it goes to, and its mark.
-use mathlib.Core.Path.{sym, _∙_}
+use mathlib.Core.Path.{refl, sym, _∙_}
 use Rattle.plexil.specs.Lists.{if_then_else_, every}
 use Rattle.plexil.specs.Records.{isCommand}
 use Rattle.plexil.specs.Micro.{sentBy}
-use Rattle.atomic.proofs.RuleLaws.{type-is, type-not, marked, unmarked}
+use Rattle.plexil.proofs.TestLaws.{eq-yes, eq-no}
+use Rattle.atomic.proofs.RuleLaws.{marked, unmarked}
 use borrow.Author.Needs.{needs}
 use Rattle.atomic.proofs.moved.sent_on.Statement.{statement}
 use Rattle.atomic.proofs.moved.sent_on.Tie as tie
@@ -16,7 +17,7 @@ same-requires c κs = search needs
 
 returns : tie.Need-returns
 unfolding sentBy every if_then_else_ isCommand
-returns c = λ s e h. rw (type-is _ _ 1 (c .before .before .before .node-type .ensures) (c .before .before .if1 .taken), sym (c .before .same .ensures) ∙ c .if2 .taken)
+returns c = λ s e h. rw (eq-yes (c .before .before .before .node-type .ensures) refl (c .before .before .if1 .taken), sym (c .before .same .ensures) ∙ c .if2 .taken)
 
 same-requires-2 : tie.Need-same-requires-2
 same-requires-2 c κs = search needs
@@ -26,19 +27,19 @@ at-requires c κs = search needs
 
 returns-2 : tie.Need-returns-2
 unfolding sentBy every if_then_else_ isCommand
-returns-2 c = λ s e h. rw (type-is _ _ 1 (c .before .before .before .before .before .before .before .node-type .ensures) (c .before .before .before .before .before .before .if1 .taken), sym (c .before .before .before .before .before .same .ensures) ∙ c .before .before .before .before .if2 .left, sym (c .before .before .before .same2 .ensures) ∙ c .before .before .if3 .taken, unmarked s _ h (c .before .at .ensures) (c .if4 .taken))
+returns-2 c = λ s e h. rw (eq-yes (c .before .before .before .before .before .before .before .node-type .ensures) refl (c .before .before .before .before .before .before .if1 .taken), sym (c .before .before .before .before .before .same .ensures) ∙ c .before .before .before .before .if2 .left, sym (c .before .before .before .same2 .ensures) ∙ c .before .before .if3 .taken, unmarked s _ h (c .before .at .ensures) (c .if4 .taken))
 
 returns-3 : tie.Need-returns-3
 unfolding sentBy every if_then_else_ isCommand
-returns-3 c = λ s e h. rw (type-is _ _ 1 (c .before .before .before .before .before .before .before .node-type .ensures) (c .before .before .before .before .before .before .if1 .taken), sym (c .before .before .before .before .before .same .ensures) ∙ c .before .before .before .before .if2 .left, sym (c .before .before .before .same2 .ensures) ∙ c .before .before .if3 .taken, marked s _ h (c .before .at .ensures) (c .if4 .left))
+returns-3 c = λ s e h. rw (eq-yes (c .before .before .before .before .before .before .before .node-type .ensures) refl (c .before .before .before .before .before .before .if1 .taken), sym (c .before .before .before .before .before .same .ensures) ∙ c .before .before .before .before .if2 .left, sym (c .before .before .before .same2 .ensures) ∙ c .before .before .if3 .taken, marked s _ h (c .before .at .ensures) (c .if4 .left))
 
 returns-4 : tie.Need-returns-4
 unfolding sentBy every if_then_else_ isCommand
-returns-4 c = λ s e h. rw (type-is _ _ 1 (c .before .before .before .before .before .node-type .ensures) (c .before .before .before .before .if1 .taken), sym (c .before .before .before .same .ensures) ∙ c .before .before .if2 .left, sym (c .before .same2 .ensures) ∙ c .if3 .left)
+returns-4 c = λ s e h. rw (eq-yes (c .before .before .before .before .before .node-type .ensures) refl (c .before .before .before .before .if1 .taken), sym (c .before .before .before .same .ensures) ∙ c .before .before .if2 .left, sym (c .before .same2 .ensures) ∙ c .if3 .left)
 
 returns-5 : tie.Need-returns-5
 unfolding sentBy every if_then_else_ isCommand
-returns-5 c = λ s e h. rw (type-not _ _ 1 (c .before .node-type .ensures) (c .if1 .left))
+returns-5 c = λ s e h. rw (eq-no (c .before .node-type .ensures) refl (c .if1 .left))
 
 pub sent-on-spec : {M : Type 1} → statement M
 sent-on-spec =

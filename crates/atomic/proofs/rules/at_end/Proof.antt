@@ -1,14 +1,10 @@
 -- By the node's type, and a command by its mark.
-use mathlib.Core.Path.{_≡_, sym, ap, _∙_}
-use mathlib.Core.List.{List}
-use Prim.Native.Nat.{ℕ}
-use borrow.Author.Tests.{eq-eqb, ne-eqb}
-use lib.ListN.{getD}
+use mathlib.Core.Path.{refl}
 use Rattle.plexil.specs.Lists.{if_then_else_}
-use Rattle.plexil.specs.Places.{markAt}
 use Rattle.plexil.specs.Records.{isList, isCommand}
 use Rattle.plexil.specs.Atomic.{atEnd}
-use Rattle.atomic.proofs.RuleLaws.{type-is, type-not, marked, unmarked}
+use Rattle.plexil.proofs.TestLaws.{eq-yes, eq-no}
+use Rattle.atomic.proofs.RuleLaws.{marked, unmarked}
 use borrow.Author.Needs.{needs}
 use Rattle.atomic.proofs.rules.at_end.Statement.{statement}
 use Rattle.atomic.proofs.rules.at_end.Tie as tie
@@ -18,22 +14,22 @@ node-type-requires c κs = search needs
 
 returns : tie.Need-returns
 unfolding atEnd isList if_then_else_
-returns c = λ s e. rw (type-is _ _ 0 (c .before .node-type .ensures) (c .if1 .taken))
+returns c = λ s e. rw (eq-yes (c .before .node-type .ensures) refl (c .if1 .taken))
 
 at-requires : tie.Need-at-requires
 at-requires c κs = search needs
 
 returns-2 : tie.Need-returns-2
 unfolding atEnd isList isCommand if_then_else_
-returns-2 c = λ s e. rw (type-not _ _ 0 (c .before .before .before .before .node-type .ensures) (c .before .before .before .if1 .left), type-is _ _ 1 (c .before .before .before .before .node-type .ensures) (c .before .before .if2 .taken), unmarked s _ e (c .before .at .ensures) (c .if3 .taken))
+returns-2 c = λ s e. rw (eq-no (c .before .before .before .before .node-type .ensures) refl (c .before .before .before .if1 .left), eq-yes (c .before .before .before .before .node-type .ensures) refl (c .before .before .if2 .taken), unmarked s _ e (c .before .at .ensures) (c .if3 .taken))
 
 returns-3 : tie.Need-returns-3
 unfolding atEnd isList isCommand if_then_else_
-returns-3 c = λ s e. rw (type-not _ _ 0 (c .before .before .before .before .node-type .ensures) (c .before .before .before .if1 .left), type-is _ _ 1 (c .before .before .before .before .node-type .ensures) (c .before .before .if2 .taken), marked s _ e (c .before .at .ensures) (c .if3 .left))
+returns-3 c = λ s e. rw (eq-no (c .before .before .before .before .node-type .ensures) refl (c .before .before .before .if1 .left), eq-yes (c .before .before .before .before .node-type .ensures) refl (c .before .before .if2 .taken), marked s _ e (c .before .at .ensures) (c .if3 .left))
 
 returns-4 : tie.Need-returns-4
 unfolding atEnd isList isCommand if_then_else_
-returns-4 c = λ s e. rw (type-not _ _ 0 (c .before .before .node-type .ensures) (c .before .if1 .left), type-not _ _ 1 (c .before .before .node-type .ensures) (c .if2 .left))
+returns-4 c = λ s e. rw (eq-no (c .before .before .node-type .ensures) refl (c .before .if1 .left), eq-no (c .before .before .node-type .ensures) refl (c .if2 .left))
 
 pub at-end-spec : {M : Type 1} → statement M
 at-end-spec =

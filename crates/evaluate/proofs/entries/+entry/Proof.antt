@@ -5,10 +5,11 @@ use native.Mathlib.Omega.{arith}
 use borrow.Author.Needs.{needs}
 use borrow.Fn.Kinds.{In}
 use borrow.Fn.PlainCycle.{Measures, is, falls, and}
-use Rattle.plexil.specs.Image.{exprAt, resultKind, operandA, operandB, constant}
+use Rattle.plexil.specs.Image.{exprAt, resultKind, operandB, constant}
 use Rattle.plexil.specs.Places.{outcomeAt, failureAt, varCell, lookCell, valueIn}
 use Rattle.plexil.specs.Expressions.{constantOp, variableOp, lookupOp, statusOp, outcomeOp, failureOp, operatorOf, leafOf}
-use Rattle.evaluate.proofs.Laws.{value-none, value-leaf, value-not, value-join}
+use Rattle.plexil.proofs.OperatorNumbers.{NoneOf}
+use Rattle.evaluate.proofs.Laws.{is-a, is-b, value-none, value-leaf, value-not, value-join}
 use Rattle.evaluate.proofs.entries.entry.Reads as entry
 use Rattle.evaluate.proofs.entries.entry.Kinds as entry-kinds
 use Rattle.evaluate.proofs.entries.+entry.Lts-entry as entry-lts
@@ -52,29 +53,29 @@ returns-2 t c mark =
     value-leaf _ _ _ _ (c .before .before .before .before .before .before .before .if1 .left) (c .before .before .before .before .before .before .before .before .before .before .before .before .before .before .before .before .pre .1 .0) (c .before .before .before .before .byte-at .ensures) constantOp (c .before .before .before .match .keys1) refl (rw (← c .before .before .before .before .before .before .before .before .before .before .before .before .before .before .before .before .pre .1 .0, ← c .before .before .before .before .before .le162 .ensures, ← c .before .before .byte-at2 .ensures, ← c .before .le64 .ensures) (c .constant .ensures))
 
 returns-3 : (t : ℕ) → entry-lts.Need-returns-3 (claims t) (entry-at t) entry.Post
-unfolding operatorOf leafOf exprAt operandA varCell valueIn
+unfolding operatorOf leafOf varCell valueIn
 returns-3 t c mark =
-    value-leaf _ _ _ _ (c .before .before .before .before .before .if1 .left) (c .before .before .before .before .before .before .before .before .before .before .before .before .before .before .pre .1 .0) (c .before .before .byte-at .ensures) variableOp (c .before .match .keys2) refl (rw (← c .before .before .before .before .before .before .before .before .before .before .before .before .before .before .pre .1 .0, ← c .before .before .before .before .le16 .ensures) (c .cell-value .ensures))
+    value-leaf _ _ _ _ (c .before .before .before .before .before .if1 .left) (c .before .before .before .before .before .before .before .before .before .before .before .before .before .before .pre .1 .0) (c .before .before .byte-at .ensures) variableOp (c .before .match .keys2) refl (rw (← is-a _ _ (c .before .before .before .before .before .before .before .before .before .before .before .before .before .before .pre .1 .0) (c .before .before .before .before .le16 .ensures)) (c .cell-value .ensures))
 
 returns-4 : (t : ℕ) → entry-lts.Need-returns-4 (claims t) (entry-at t) entry.Post
-unfolding operatorOf leafOf exprAt operandA lookCell valueIn
+unfolding operatorOf leafOf lookCell valueIn
 returns-4 t c mark =
-    value-leaf _ _ _ _ (c .before .before .before .before .before .if1 .left) (c .before .before .before .before .before .before .before .before .before .before .before .before .before .before .pre .1 .0) (c .before .before .byte-at .ensures) lookupOp (c .before .match .keys3) refl (rw (← c .before .before .before .before .before .before .before .before .before .before .before .before .before .before .pre .1 .0, ← c .before .before .before .before .le16 .ensures) (c .cell-value2 .ensures))
+    value-leaf _ _ _ _ (c .before .before .before .before .before .if1 .left) (c .before .before .before .before .before .before .before .before .before .before .before .before .before .before .pre .1 .0) (c .before .before .byte-at .ensures) lookupOp (c .before .match .keys3) refl (rw (← is-a _ _ (c .before .before .before .before .before .before .before .before .before .before .before .before .before .before .pre .1 .0) (c .before .before .before .before .le16 .ensures)) (c .cell-value2 .ensures))
 
 returns-5 : (t : ℕ) → entry-lts.Need-returns-5 (claims t) (entry-at t) entry.Post
-unfolding operatorOf leafOf exprAt operandA operandB
+unfolding operatorOf leafOf
 returns-5 t c mark =
-    value-leaf _ _ _ _ (c .before .before .before .before .before .if1 .left) (c .before .before .before .before .before .before .before .before .before .before .before .before .before .before .pre .1 .0) (c .before .before .byte-at .ensures) statusOp (c .before .match .keys4) refl (rw (← c .before .before .before .before .before .before .before .before .before .before .before .before .before .before .pre .1 .0, ← c .before .before .before .before .le16 .ensures, ← c .before .before .before .le162 .ensures) (c .code-is .ensures))
+    value-leaf _ _ _ _ (c .before .before .before .before .before .if1 .left) (c .before .before .before .before .before .before .before .before .before .before .before .before .before .before .pre .1 .0) (c .before .before .byte-at .ensures) statusOp (c .before .match .keys4) refl (rw (← is-a _ _ (c .before .before .before .before .before .before .before .before .before .before .before .before .before .before .pre .1 .0) (c .before .before .before .before .le16 .ensures), ← is-b _ _ (c .before .before .before .before .before .before .before .before .before .before .before .before .before .before .pre .1 .0) (c .before .before .before .le162 .ensures)) (c .code-is .ensures))
 
 returns-6 : (t : ℕ) → entry-lts.Need-returns-6 (claims t) (entry-at t) entry.Post
-unfolding operatorOf leafOf exprAt operandA operandB outcomeAt
+unfolding operatorOf leafOf outcomeAt
 returns-6 t c mark =
-    value-leaf _ _ _ _ (c .before .before .before .before .before .if1 .left) (c .before .before .before .before .before .before .before .before .before .before .before .before .before .before .pre .1 .0) (c .before .before .byte-at .ensures) outcomeOp (c .before .match .keys5) refl (rw (← c .before .before .before .before .before .before .before .before .before .before .before .before .before .before .pre .1 .0, ← c .before .before .before .before .le16 .ensures, ← c .before .before .before .le162 .ensures) (c .code-is2 .ensures))
+    value-leaf _ _ _ _ (c .before .before .before .before .before .if1 .left) (c .before .before .before .before .before .before .before .before .before .before .before .before .before .before .pre .1 .0) (c .before .before .byte-at .ensures) outcomeOp (c .before .match .keys5) refl (rw (← is-a _ _ (c .before .before .before .before .before .before .before .before .before .before .before .before .before .before .pre .1 .0) (c .before .before .before .before .le16 .ensures), ← is-b _ _ (c .before .before .before .before .before .before .before .before .before .before .before .before .before .before .pre .1 .0) (c .before .before .before .le162 .ensures)) (c .code-is2 .ensures))
 
 returns-7 : (t : ℕ) → entry-lts.Need-returns-7 (claims t) (entry-at t) entry.Post
-unfolding operatorOf leafOf exprAt operandA operandB failureAt
+unfolding operatorOf leafOf failureAt
 returns-7 t c mark =
-    value-leaf _ _ _ _ (c .before .before .before .before .before .if1 .left) (c .before .before .before .before .before .before .before .before .before .before .before .before .before .before .pre .1 .0) (c .before .before .byte-at .ensures) failureOp (c .before .match .keys6) refl (rw (← c .before .before .before .before .before .before .before .before .before .before .before .before .before .before .pre .1 .0, ← c .before .before .before .before .le16 .ensures, ← c .before .before .before .le162 .ensures) (c .code-is3 .ensures))
+    value-leaf _ _ _ _ (c .before .before .before .before .before .if1 .left) (c .before .before .before .before .before .before .before .before .before .before .before .before .before .before .pre .1 .0) (c .before .before .byte-at .ensures) failureOp (c .before .match .keys6) refl (rw (← is-a _ _ (c .before .before .before .before .before .before .before .before .before .before .before .before .before .before .pre .1 .0) (c .before .before .before .before .le16 .ensures), ← is-b _ _ (c .before .before .before .before .before .before .before .before .before .before .before .before .before .before .pre .1 .0) (c .before .before .before .le162 .ensures)) (c .code-is3 .ensures))
 
 returns-8 : (t : ℕ) → entry-lts.Need-returns-8 (claims t) (entry-at t) entry.Post
 returns-8 t c mark =
@@ -82,7 +83,7 @@ returns-8 t c mark =
 
 returns-9 : (t : ℕ) → entry-lts.Need-returns-9 (claims t) (entry-at t) entry.Post
 returns-9 t c mark =
-    c .join .ensures ∙ value-join _ _ _ _ (c .before .before .before .before .before .before .before .if1 .left) (c .before .before .before .before .before .before .before .before .before .before .before .before .before .before .before .before .pre .1 .0) (c .before .before .before .before .byte-at .ensures) (c .before .before .before .before .before .before .le16 .ensures) (c .before .before .entry2 .ensures mark) (c .before .before .before .before .before .le162 .ensures) (c .before .entry3 .ensures mark) (c .before .before .before .match .rest)
+    unfold NoneOf in c .join .ensures ∙ value-join _ _ _ _ (c .before .before .before .before .before .before .before .if1 .left) (c .before .before .before .before .before .before .before .before .before .before .before .before .before .before .before .before .pre .1 .0) (c .before .before .before .before .byte-at .ensures) (c .before .before .before .before .before .before .le16 .ensures) (c .before .before .entry2 .ensures mark) (c .before .before .before .before .before .le162 .ensures) (c .before .entry3 .ensures mark) (c .before .before .before .match .rest)
 
 pub +entry-spec : {M : Type 1} → statement M
 +entry-spec =

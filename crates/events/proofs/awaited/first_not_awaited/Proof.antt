@@ -4,8 +4,8 @@ use mathlib.Core.Path.{_≡_}
 use native.Mathlib.Omega.{arith}
 use Rattle.plexil.specs.declared.State.{State}
 use Rattle.plexil.specs.Macro.{entryCount, notAwaited}
-use Rattle.form.proofs.Laws.{told}
-use Rattle.events.proofs.Laws.{Upto, upto-start, upto-found, upto-next, upto-end}
+use Rattle.plexil.proofs.TestLaws.{told}
+use Rattle.plexil.proofs.LoopLaws.{Upto, upto-start, upto-found, upto-next, upto-end}
 use Rattle.events.proofs.awaited.first_not_awaited.Statement.{statement}
 use Rattle.events.proofs.awaited.first_not_awaited.Tie as tie
 

@@ -5,7 +5,8 @@ use lib.Dec.{eqb}
 use Rattle.plexil.specs.Places.{markAt}
 use Rattle.plexil.specs.Form.{isAwaiting}
 use Rattle.plexil.specs.Macro.{awaited}
-use Rattle.form.proofs.Laws.{told, one-fails, and-then, and-last, stands}
+use Rattle.plexil.proofs.TestLaws.{told, one-fails, and-then, and-last}
+use Rattle.plexil.proofs.ListLaws.{stands}
 use Rattle.events.proofs.awaited.is_awaited.Statement.{statement}
 use Rattle.events.proofs.awaited.is_awaited.Tie as tie
 
@@ -17,6 +18,6 @@ is-awaited-spec =
     (λ _ _. tt)
     (λ _ _. tt)
     (λ _ _. tt)
-    (λ c. λ s e m. and-then _ _ (told (c .before .before .is-awaiting .ensures ∙ ap isAwaiting (c .before .before .before .status-at .ensures s e)) (c .before .if1 .taken))
-    (and-last _ (ap (λ (n : ℕ). eqb n 0) (stands _ _ m (c .at .ensures)))))
+    (λ c. λ s e m. and-then _ (told (c .before .before .is-awaiting .ensures ∙ ap isAwaiting (c .before .before .before .status-at .ensures s e)) (c .before .if1 .taken))
+    (and-last (ap (λ (n : ℕ). eqb n 0) (stands _ _ m (c .at .ensures)))))
     (λ c. λ s e m. one-fails _ 0 (told (c .before .is-awaiting .ensures ∙ ap isAwaiting (c .before .before .status-at .ensures s e)) (c .if1 .left))))

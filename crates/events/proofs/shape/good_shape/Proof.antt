@@ -1,10 +1,10 @@
 -- Test after test.
 use Prim.Native.Nat.{ℕ}
-use mathlib.Core.Path.{ap, sym, _∙_}
+use mathlib.Core.Path.{refl, ap, sym, _∙_}
 use lib.Dec.{leb}
 use borrow.Author.Tests.{le-leb, lt-leb}
 use Rattle.plexil.specs.Macro.{goodShape}
-use Rattle.form.proofs.Laws.{one-fails, and-then, and-last, is-num, not-num}
+use Rattle.plexil.proofs.TestLaws.{one-fails, and-then, and-last, eq-yes, eq-no}
 use Rattle.events.proofs.Laws.{long-as}
 use borrow.Author.Needs.{needs}
 use Rattle.events.proofs.shape.good_shape.Statement.{statement}
@@ -19,11 +19,11 @@ good-shape-spec =
     (λ _ _. tt)
     (λ c. one-fails _ 1 (ap (λ (n : ℕ). leb n 128) (sym (c .before .entry-count .ensures)) ∙ lt-leb _ _ (c .if2 .taken)))
     (λ _ _. tt)
-    (λ c. one-fails _ 2 (not-num 0 (c .before .le16 .ensures) (c .if3 .taken)))
+    (λ c. one-fails _ 2 (eq-no (c .before .le16 .ensures) refl (c .if3 .taken)))
     (λ c. search needs)
     (λ c. search needs)
     (λ c. search needs)
-    (λ c. and-then _ _ (le-leb _ _ (c .before .before .before .before .if1 .left))
-    (and-then _ _ (ap (λ (n : ℕ). leb n 128) (sym (c .before .before .before .entry-count .ensures)) ∙ le-leb _ _ (c .before .before .if2 .left))
-    (and-then _ _ (is-num 0 (c .before .le16 .ensures) (c .if3 .left))
-    (and-last _ (long-as _ (c .before .before .before .entry-count .ensures)))))))
+    (λ c. and-then _ (le-leb _ _ (c .before .before .before .before .if1 .left))
+    (and-then _ (ap (λ (n : ℕ). leb n 128) (sym (c .before .before .before .entry-count .ensures)) ∙ le-leb _ _ (c .before .before .if2 .left))
+    (and-then _ (eq-yes (c .before .le16 .ensures) refl (c .if3 .left))
+    (and-last (long-as _ (c .before .before .before .entry-count .ensures)))))))

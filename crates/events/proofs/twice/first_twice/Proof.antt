@@ -2,8 +2,8 @@
 use Prim.Native.Nat.{_-_}
 use native.Mathlib.Omega.{arith}
 use Rattle.plexil.specs.Macro.{entryCount, namedBefore}
-use Rattle.form.proofs.Laws.{told}
-use Rattle.events.proofs.Laws.{Upto, upto-start, upto-found, upto-next, upto-end}
+use Rattle.plexil.proofs.TestLaws.{told}
+use Rattle.plexil.proofs.LoopLaws.{Upto, upto-start, upto-found, upto-next, upto-end}
 use Rattle.events.proofs.twice.first_twice.Statement.{statement}
 use Rattle.events.proofs.twice.first_twice.Tie as tie
 

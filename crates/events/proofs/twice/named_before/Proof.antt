@@ -5,8 +5,8 @@ use mathlib.Core.Bool.{false}
 use native.Mathlib.Omega.{arith}
 use Rattle.plexil.specs.Lists.{anyBelow}
 use Rattle.plexil.specs.Macro.{namesSame, namedBefore}
-use Rattle.form.proofs.Laws.{told}
-use Rattle.events.proofs.Laws.{any-none, any-next, any-end, any-found}
+use Rattle.plexil.proofs.TestLaws.{told}
+use Rattle.plexil.proofs.LoopLaws.{any-none, any-next, any-end, any-found}
 use Rattle.events.proofs.twice.named_before.Statement.{statement}
 use Rattle.events.proofs.twice.named_before.Tie as tie
 

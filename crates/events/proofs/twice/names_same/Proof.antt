@@ -2,8 +2,7 @@
 use mathlib.Core.Bool.{Bool·beq}
 use mathlib.Core.Path.{ap₂}
 use Rattle.plexil.specs.Macro.{namesSame}
-use Rattle.form.proofs.Laws.{one-fails, and-then, and-last}
-use Rattle.events.proofs.Laws.{same-both, other-both}
+use Rattle.plexil.proofs.TestLaws.{one-fails, and-then, and-last, eq-yes, eq-no}
 use Rattle.events.proofs.twice.names_same.Statement.{statement}
 use Rattle.events.proofs.twice.names_same.Tie as tie
 
@@ -14,7 +13,7 @@ names-same-spec =
     (tie.spec
     (λ _ _. tt)
     (λ _ _. tt)
-    (λ c. one-fails _ 0 (other-both (c .before .before .index .ensures) (c .before .index2 .ensures) (c .if1 .taken)))
+    (λ c. one-fails _ 0 (eq-no (c .before .before .index .ensures) (c .before .index2 .ensures) (c .if1 .taken)))
     (λ _ _. tt)
     (λ _ _. tt)
-    (λ c. and-then _ _ (same-both (c .before .before .before .before .index .ensures) (c .before .before .before .index2 .ensures) (c .before .before .if1 .left)) (and-last _ (ap₂ Bool·beq (c .before .names-lookup .ensures) (c .names-lookup2 .ensures)))))
+    (λ c. and-then _ (eq-yes (c .before .before .before .before .index .ensures) (c .before .before .before .index2 .ensures) (c .before .before .if1 .left)) (and-last (ap₂ Bool·beq (c .before .names-lookup .ensures) (c .names-lookup2 .ensures)))))

@@ -4,8 +4,8 @@ use mathlib.Core.Bool.{not}
 use mathlib.Core.Path.{ap}
 use native.Mathlib.Omega.{arith}
 use Rattle.plexil.specs.Macro.{entryCount, goodEntry}
-use Rattle.form.proofs.Laws.{told}
-use Rattle.events.proofs.Laws.{Upto, upto-start, upto-found, upto-next, upto-end}
+use Rattle.plexil.proofs.TestLaws.{told}
+use Rattle.plexil.proofs.LoopLaws.{Upto, upto-start, upto-found, upto-next, upto-end}
 use Rattle.events.proofs.wrong.first_wrong.Statement.{statement}
 use Rattle.events.proofs.wrong.first_wrong.Tie as tie
 

@@ -1,7 +1,7 @@
 -- The spare, then the form.
-use mathlib.Core.Path.{ap, _∙_}
+use mathlib.Core.Path.{refl, ap, _∙_}
 use Rattle.plexil.specs.Macro.{goodForm, goodEntry}
-use Rattle.form.proofs.Laws.{one-fails, and-then, and-last, is-num, not-num}
+use Rattle.plexil.proofs.TestLaws.{one-fails, and-then, and-last, eq-yes, eq-no}
 use Rattle.events.proofs.wrong.good_entry.Statement.{statement}
 use Rattle.events.proofs.wrong.good_entry.Tie as tie
 
@@ -11,7 +11,7 @@ good-entry-spec =
     tie.close
     (tie.spec
     (λ _ _. tt)
-    (λ c. one-fails _ 0 (not-num 0 (c .before .entry-spare .ensures) (c .if1 .taken)))
+    (λ c. one-fails _ 0 (eq-no (c .before .entry-spare .ensures) refl (c .if1 .taken)))
     (λ _ _. tt)
     (λ _ _. tt)
-    (λ c. and-then _ _ (is-num 0 (c .before .before .before .entry-spare .ensures) (c .before .before .if1 .left)) (and-last _ (c .good-form .ensures ∙ ap (goodForm _ _ _) (c .before .entry-form .ensures)))))
+    (λ c. and-then _ (eq-yes (c .before .before .before .entry-spare .ensures) refl (c .before .before .if1 .left)) (and-last (c .good-form .ensures ∙ ap (goodForm _ _ _) (c .before .entry-form .ensures)))))

@@ -3,8 +3,7 @@ use Prim.Native.Nat.{ℕ}
 use mathlib.Core.Path.{ap}
 use lib.Dec.{eqb}
 use Rattle.plexil.specs.Macro.{goodForm}
-use Rattle.form.proofs.Laws.{one-fails, and-then, and-last}
-use Rattle.events.proofs.Laws.{below-both, past-both}
+use Rattle.plexil.proofs.TestLaws.{one-fails, and-then, and-last, lt-yes, lt-no}
 use Rattle.events.proofs.wrong.good_unknown.Statement.{statement}
 use Rattle.events.proofs.wrong.good_unknown.Tie as tie
 
@@ -15,6 +14,6 @@ good-unknown-spec =
     (tie.spec
     (λ _ _. tt)
     (λ _ _. tt)
-    (λ c. one-fails _ 0 (past-both (c .before .before .index .ensures) (c .before .look-count .ensures) (c .if1 .taken)))
+    (λ c. one-fails _ 0 (lt-no (c .before .before .index .ensures) (c .before .look-count .ensures) (c .if1 .taken)))
     (λ _ _. tt)
-    (λ c. and-then _ _ (below-both (c .before .before .before .index .ensures) (c .before .before .look-count .ensures) (c .before .if1 .left)) (and-last _ (ap (λ (w : ℕ). eqb w 0) (c .entry-bits .ensures)))))
+    (λ c. and-then _ (lt-yes (c .before .before .before .index .ensures) (c .before .before .look-count .ensures) (c .before .if1 .left)) (and-last (ap (λ (w : ℕ). eqb w 0) (c .entry-bits .ensures)))))

@@ -3,8 +3,7 @@ use mathlib.Core.Path.{ap, ap₂, _∙_}
 use Rattle.plexil.specs.Image.{lookKind}
 use Rattle.plexil.specs.Values.{goodBits}
 use Rattle.plexil.specs.Macro.{goodForm}
-use Rattle.form.proofs.Laws.{one-fails, and-then, and-last}
-use Rattle.events.proofs.Laws.{below-both, past-both}
+use Rattle.plexil.proofs.TestLaws.{one-fails, and-then, and-last, lt-yes, lt-no}
 use Rattle.events.proofs.wrong.good_value.Statement.{statement}
 use Rattle.events.proofs.wrong.good_value.Tie as tie
 
@@ -15,9 +14,9 @@ good-value-spec =
     (tie.spec
     (λ _ _. tt)
     (λ _ _. tt)
-    (λ c. one-fails _ 0 (past-both (c .before .before .index .ensures) (c .before .look-count .ensures) (c .if1 .taken)))
+    (λ c. one-fails _ 0 (lt-no (c .before .before .index .ensures) (c .before .look-count .ensures) (c .if1 .taken)))
     (λ _ _. tt)
     (λ _ _. tt)
     (λ _ _. tt)
-    (λ c. and-then _ _ (below-both (c .before .before .before .before .before .index .ensures) (c .before .before .before .before .look-count .ensures) (c .before .before .before .if1 .left))
-    (and-last _ (c .good-bits .ensures ∙ ap₂ goodBits (c .before .before .look-kind .ensures ∙ ap (lookKind _) (c .before .before .before .before .before .index .ensures)) (c .before .entry-bits .ensures)))))
+    (λ c. and-then _ (lt-yes (c .before .before .before .before .before .index .ensures) (c .before .before .before .before .look-count .ensures) (c .before .before .before .if1 .left))
+    (and-last (c .good-bits .ensures ∙ ap₂ goodBits (c .before .before .look-kind .ensures ∙ ap (lookKind _) (c .before .before .before .before .before .index .ensures)) (c .before .entry-bits .ensures)))))

@@ -1,7 +1,8 @@
 -- Unknown, or a known value of the kind.
 use borrow.Author.Tests.{eq-eqb, ne-eqb}
 use Rattle.plexil.specs.Form.{goodCell}
-use Rattle.form.proofs.Laws.{one-fails, and-then, and-last, known-cell}
+use Rattle.plexil.proofs.TestLaws.{one-fails, and-then, and-last}
+use Rattle.form.proofs.Laws.{known-cell}
 use borrow.Author.Needs.{needs}
 use Rattle.form.proofs.cells.good_cell.Statement.{statement}
 use Rattle.form.proofs.cells.good_cell.Tie as tie
@@ -14,4 +15,4 @@ good-cell-spec =
     (λ c. search needs)
     (λ c. known-cell _ _ _ (c .before .if1 .left) (one-fails _ 0 (ne-eqb _ _ (c .if2 .taken))))
     (λ _ _. tt)
-    (λ c. known-cell _ _ _ (c .before .before .if1 .left) (and-then _ _ (eq-eqb _ _ (c .before .if2 .left)) (and-last _ (c .good-bits .ensures)))))
+    (λ c. known-cell _ _ _ (c .before .before .if1 .left) (and-then _ (eq-eqb _ _ (c .before .if2 .left)) (and-last (c .good-bits .ensures)))))

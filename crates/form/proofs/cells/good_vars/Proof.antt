@@ -8,7 +8,8 @@ use Rattle.plexil.specs.Lists.{allBelow}
 use Rattle.plexil.specs.Values.{cell}
 use Rattle.plexil.specs.Image.{varKind}
 use Rattle.plexil.specs.Form.{hasKind}
-use Rattle.form.proofs.Laws.{kind-told, all-none, all-next, all-end, all-fails}
+use Rattle.plexil.proofs.LoopLaws.{all-none, all-next, all-end, all-fails}
+use Rattle.form.proofs.Laws.{kind-told}
 use Rattle.form.proofs.cells.good_vars.Statement.{statement}
 use Rattle.form.proofs.cells.good_vars.Tie as tie
 

@@ -6,7 +6,8 @@ use native.Mathlib.Omega.{arith}
 use Rattle.plexil.specs.declared.State.{State}
 use Rattle.plexil.specs.Lists.{allBelow}
 use Rattle.plexil.specs.Form.{goodPlace}
-use Rattle.form.proofs.Laws.{told, all-none, all-next, all-end, all-fails}
+use Rattle.plexil.proofs.TestLaws.{told}
+use Rattle.plexil.proofs.LoopLaws.{all-none, all-next, all-end, all-fails}
 use Rattle.form.proofs.nodes.good_places.Statement.{statement}
 use Rattle.form.proofs.nodes.good_places.Tie as tie
 

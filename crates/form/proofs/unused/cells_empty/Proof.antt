@@ -1,5 +1,5 @@
 -- Tags, then bits.
-use Rattle.form.proofs.Laws.{told, one-fails, and-then, and-last}
+use Rattle.plexil.proofs.TestLaws.{told, one-fails, and-then, and-last}
 use Rattle.form.proofs.unused.cells_empty.Statement.{statement}
 use Rattle.form.proofs.unused.cells_empty.Tie as tie
 
@@ -9,5 +9,5 @@ cells-empty-spec =
     (tie.spec
     (λ _ _. tt)
     (λ _ _. tt)
-    (λ c. and-then _ _ (told (c .before .before .zero-from .ensures) (c .before .if1 .taken)) (and-last _ (c .zero-bits-from .ensures)))
+    (λ c. and-then _ (told (c .before .before .zero-from .ensures) (c .before .if1 .taken)) (and-last (c .zero-bits-from .ensures)))
     (λ c. one-fails _ 0 (told (c .before .zero-from .ensures) (c .if1 .left))))

@@ -1,6 +1,7 @@
 -- The node arrays, the variables, the lookups.
 use Rattle.plexil.specs.Form.{unusedEmpty}
-use Rattle.form.proofs.Laws.{told, part-fails, part-then, nodes-at, cells-at}
+use Rattle.plexil.proofs.TestLaws.{told}
+use Rattle.form.proofs.Laws.{part-fails, part-then, nodes-at, cells-at}
 use Rattle.form.proofs.unused.unused_empty.Statement.{statement}
 use Rattle.form.proofs.unused.unused_empty.Tie as tie
 

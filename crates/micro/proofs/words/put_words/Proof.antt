@@ -1,6 +1,6 @@
 use mathlib.Core.Path.{_≡_, refl, sym, ap, _∙_}
 use lib.ListN.{length-set}
-use Rattle.micro.proofs.WordLaws.{sentWords, count-none, count-one, list-none, list-one, has-room, put-none}
+use Rattle.micro.proofs.WordLaws.{sentWords, count-none, count-one, list-none, list-one, has-room}
 use borrow.Author.Needs.{needs}
 -- The list's part begins with the words of the nodes below i; what is left of the nodes falls.
 use Prim.Native.Nat.{ℕ, _≤_, _-_}
@@ -9,6 +9,7 @@ use native.Mathlib.Omega.{arith}
 use lib.ListN.{length, getD}
 use Rattle.plexil.specs.Lists.{put}
 use Rattle.plexil.specs.Micro.{wordsFrom}
+use Rattle.plexil.proofs.PutLaws.{put-none}
 use Rattle.micro.proofs.words.put_words.Statement.{statement}
 use Rattle.micro.proofs.words.put_words.Tie as tie
 
@@ -21,7 +22,7 @@ abbrev μ-loop : tie.MeasureT-loop
 
 loop-holds : tie.Need-loop-holds Inv-loop μ-loop
 unfolding wordsFrom
-loop-holds c = (search needs, refl, put-none _, refl)
+loop-holds c = (search needs, refl, sym (put-none _ 0), refl)
 
 cast-w : tie.Need-cast-w Inv-loop μ-loop
 cast-w c = search needs

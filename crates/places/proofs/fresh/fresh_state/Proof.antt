@@ -1,12 +1,13 @@
 -- After v variables the first v cells are made; what is left of the variables falls.
-use Prim.Native.Nat.{_≤_, _-_}
+use Prim.Native.Nat.{ℕ, _≤_, _-_}
 use native.Mathlib.Omega.{arith}
-use mathlib.Core.Path.{_≡_, ap}
+use mathlib.Core.Path.{_≡_, sym, ap}
 use borrow.Author.Needs.{needs}
+use lib.ListN.{length-replicate}
 use Rattle.plexil.specs.declared.Cell.{Cell}
 use Rattle.plexil.specs.Image.{varCount}
-use Rattle.plexil.specs.Places.{initial}
-use Rattle.places.proofs.FreshLaws.{tagsTo, bitsTo, none-made, one-made, all-made}
+use Rattle.plexil.proofs.RenewLaws.{renew-none, stored}
+use Rattle.places.proofs.FreshLaws.{tagsTo, bitsTo, all-made}
 use Rattle.places.proofs.fresh.fresh_state.Statement.{statement}
 use Rattle.places.proofs.fresh.fresh_state.Tie as tie
 
@@ -24,7 +25,7 @@ fresh-state-spec =
     Inv-loop
     μ-loop
     (λ _ _. tt)
-    (λ c. (omega arith, c .var-count .ensures, omega arith, none-made 128 _, none-made 128 _))
+    (λ c. (omega arith, c .var-count .ensures, omega arith, sym (renew-none _ _), sym (renew-none _ _)))
     (λ _ _. tt)
     (λ c. search needs)
     (λ c. search needs)
@@ -37,8 +38,8 @@ fresh-state-spec =
       omega arith,
       c .before .before .loop .inv .1,
       c .before .before .loop .inv .2,
-      one-made 128 _ _ (omega arith) (c .before .before .loop .inv .3) (ap (λ (x : Cell). x .tag) (c .initial .ensures)),
-      one-made 128 _ _ (omega arith) (c .before .before .loop .inv .4) (ap (λ (x : Cell). x .bits) (c .initial .ensures)),
+      stored _ _ _ _ (c .before .before .loop .inv .3) (omega (arith, length-replicate {A = ℕ} 128 0)) (ap (λ (x : Cell). x .tag) (c .initial .ensures)),
+      stored _ _ _ _ (c .before .before .loop .inv .4) (omega (arith, length-replicate {A = ℕ} 128 0)) (ap (λ (x : Cell). x .bits) (c .initial .ensures)),
     ))
     (λ c. search needs)
     (λ c. all-made _ (omega arith) (c .before .loop .inv .3) (c .before .loop .inv .4)))

@@ -13,7 +13,7 @@ use Rattle.plexil.specs.Places.{varCell}
 use Rattle.plexil.specs.Order.{Carry, settledVar, settle}
 use Rattle.plexil.proofs.RenewLaws.{renew-none}
 use Rattle.plexil.proofs.Admitted.{few-vars}
-use Rattle.settle.proofs.Laws.{unread, stored, whole}
+use Rattle.plexil.proofs.RenewLaws.{unread, stored, whole}
 use Rattle.settle.proofs.variables.settle_vars.Statement.{statement}
 use Rattle.settle.proofs.variables.settle_vars.Tie as tie
 

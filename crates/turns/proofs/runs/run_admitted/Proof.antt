@@ -1,12 +1,10 @@
 -- 30, then 31, then the steps.
 use borrow.Author.Needs.{needs}
-use mathlib.Core.Path.{_≡_, refl, sym, ap, _∙_}
-use native.Mathlib.Omega.{arith}
+use mathlib.Core.Path.{sym, ap, _∙_}
 use borrow.Author.Tests.{lt-ltb, le-ltb}
 use Rattle.plexil.specs.Replies.{RunReply}
-use Rattle.plexil.proofs.ListLaws.{every-at}
-use Rattle.plexil.specs.Form.{goodKept}
-use Rattle.turns.proofs.ReplyLaws.{run-state, run-place, run-goes, state-kept}
+use Rattle.plexil.proofs.Sessions.{kept-of}
+use Rattle.turns.proofs.ReplyLaws.{run-state, run-place, run-goes}
 use Rattle.turns.proofs.runs.run_admitted.Statement.{statement}
 use Rattle.turns.proofs.runs.run_admitted.Tie as tie
 
@@ -20,7 +18,7 @@ returns : tie.Need-returns
 returns c = run-place _ _ _ _ _ _ (sym (c .before .before .before .good-kept .ensures) ∙ c .before .before .if1 .taken) (lt-ltb _ _ (c .before .if2 .taken)) (c .refused .ensures)
 
 run-steps-requires : tie.Need-run-steps-requires
-run-steps-requires c κs = (c .before .before .before .before .before .before .pre, state-kept _ _ _ (sym (c .before .before .before .good-kept .ensures) ∙ c .before .before .if1 .taken), c .before .if2 .left)
+run-steps-requires c κs = (c .before .before .before .before .before .before .pre, kept-of _ _ _ (sym (c .before .before .before .good-kept .ensures) ∙ c .before .before .if1 .taken), c .before .if2 .left)
 
 same-length : tie.Need-same-length
 same-length c = search needs

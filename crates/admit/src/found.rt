@@ -1,5 +1,0 @@
-// The lowest record that breaks a rule, if one does.
-pub(crate) enum Found {
-    At(u16),
-    Nowhere,
-}
