@@ -1,7 +1,7 @@
 //! What is told of a call that two executives answer differently: where they differ, and what they were given.
 
-use crate::pair::Memory;
-use samblokur_sys::{Counts, Report};
+use crate::memory::Memory;
+use crate::places::Place;
 use std::fmt;
 
 /// Places that are told at most.
@@ -48,61 +48,5 @@ impl fmt::Display for Difference {
     fn fmt(&self, f: &mut fmt::Formatter<'_>) -> fmt::Result {
         writeln!(f, "the executives differ: {}", self.call)?;
         self.places.iter().chain(&self.given).try_for_each(|line| writeln!(f, "  {line}"))
-    }
-}
-
-/// A named number of the memory or the answer.
-pub struct Place {
-    name: String,
-    value: u64,
-}
-
-/// A named number.
-pub fn place(name: impl Into<String>, value: impl Into<u64>) -> Place {
-    Place { name: name.into(), value: value.into() }
-}
-
-/// The numbers of a list.
-pub fn places<T: Copy + Into<u64>>(name: &str, numbers: &[T]) -> Vec<Place> {
-    numbers.iter().enumerate().map(|(i, &number)| place(format!("{name}[{i}]"), number)).collect()
-}
-
-/// The numbers of an answer.
-pub fn answer(number: u32, report: &Report) -> Vec<Place> {
-    vec![
-        place("number returned", number),
-        place("report.number", report.number),
-        place("report.record", report.record),
-        place("report.ending", report.ending),
-        place("report.steps", report.steps),
-        place("report.next", report.next as u64),
-    ]
-}
-
-/// The numbers of a check's counts.
-pub fn counts(counts: &Counts) -> Vec<Place> {
-    places("counts", &[counts.nodes, counts.exprs, counts.vars, counts.looks])
-}
-
-impl Memory {
-    /// All numbers of the memory, named.
-    pub fn places(&self) -> Vec<Place> {
-        let state = &self.state;
-        let card = vec![place("card.serial", self.card.serial), place("card.phase", self.card.phase)];
-        [
-            card,
-            places("status", &state.status),
-            places("outcome", &state.outcome),
-            places("failure", &state.failure),
-            places("mark", &state.mark),
-            places("vartags", &state.vartags),
-            places("varbits", &state.varbits),
-            places("looktags", &state.looktags),
-            places("lookbits", &state.lookbits),
-            places("list", &self.list),
-        ]
-        .into_iter()
-        .flatten()
-        .collect()
     }
 }

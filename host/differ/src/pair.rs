@@ -1,21 +1,15 @@
 //! One call made to two executives on equal memory; all of it is compared afterwards.
 
-use crate::difference::{Difference, answer, counts};
+use crate::difference::Difference;
+use crate::memory::Memory;
+use crate::places::{answer, counts};
 use crate::tally::Tally;
-use samblokur_sys::{Card, Counts, Executive, Report, State};
+use samblokur_sys::{Counts, Executive, Report};
 use std::marker::PhantomData;
 
 /// What a report and counts hold before a call, so that a field left unwritten shows.
 const STALE: Report = Report { number: 901, record: 902, ending: 903, steps: 904, next: 905 };
 const STALE_COUNTS: Counts = Counts { nodes: 911, exprs: 912, vars: 913, looks: 914 };
-
-/// A state, card and list between calls.
-#[derive(Clone, Debug, PartialEq)]
-pub struct Memory {
-    pub state: State,
-    pub card: Card,
-    pub list: Vec<u32>,
-}
 
 /// The pair, and what it met.
 pub struct Pair<S, M> {

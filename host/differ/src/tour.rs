@@ -2,7 +2,8 @@
 
 use crate::difference::Difference;
 use crate::draft::Draft;
-use crate::pair::{Memory, Pair};
+use crate::memory::Memory;
+use crate::pair::Pair;
 use crate::{Random, Tally, damage, events, misses, plans, states};
 use samblokur_sys::{Card, Executive, State};
 

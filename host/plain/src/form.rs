@@ -1,4 +1,4 @@
-//! What a state and card must be: the fresh start, and refusal 30.
+//! Refusal 30: what a kept state and card must be.
 
 use crate::image::{ASSIGNMENT, COMMAND, Image, LIST};
 use crate::rule::{EXECUTING, FAILING, FINISHED, FINISHING, INACTIVE, WAITING};
@@ -8,27 +8,6 @@ use samblokur_sys::{Card, State};
 
 pub const RUNNING: u32 = 0;
 pub const QUIET: u32 = 1;
-
-/// "Fresh: node 0 Waiting, others Inactive, outcomes None, variables initial, lookups Unknown, marks clear".
-pub fn fresh(image: &Image) -> State {
-    let mut state = State::default();
-    state.status[0] = WAITING;
-    for node in 0..image.nodes() {
-        reset_variables(image, &mut state, node);
-    }
-    state
-}
-
-/// "A node's variables return to their initial values when it enters Waiting."
-pub fn reset_variables(image: &Image, state: &mut State, node: usize) {
-    for v in 0..image.vars() {
-        let variable = image.variable(v);
-        if usize::from(variable.owner) == node {
-            state.vartags[v] = if variable.known == 1 { variable.kind + 1 } else { 0 };
-            state.varbits[v] = variable.initial;
-        }
-    }
-}
 
 /// Refusal 30 is given exactly when this is false.
 pub fn holds(image: &Image, state: &State, card: &Card) -> bool {

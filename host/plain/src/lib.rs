@@ -5,6 +5,7 @@ mod check;
 mod event;
 mod expression;
 mod form;
+mod fresh;
 mod image;
 mod rule;
 mod run;
@@ -42,7 +43,7 @@ impl Executive for Plain {
 
     fn fresh(image: &[u8], state: &mut State, card: &mut Card, report: &mut Report) -> u32 {
         let answer = check::check(image).map(|image| {
-            *state = form::fresh(&image);
+            *state = fresh::fresh(&image);
             *card = Card { serial: 0, phase: form::RUNNING };
         });
         tell(report, answer)

@@ -1,7 +1,7 @@
 //! One micro step: every node is visited, all reads are of the state before.
 
 use crate::expression::work_out;
-use crate::form;
+use crate::fresh::reset_variables;
 use crate::image::{ASSIGNMENT, Image, LIST, NONE, Node};
 use crate::rule::{Deed, EXECUTING, FAILURE, FINISHED, Move, Places, Seen, WAITING, WRITE_LOST, rule};
 use crate::value::Value;
@@ -41,7 +41,7 @@ pub fn step(image: &Image, state: &State) -> Option<Step> {
         moved = true;
         put(&mut step.next, i, places);
         if places.status == WAITING {
-            form::reset_variables(image, &mut step.next, i);
+            reset_variables(image, &mut step.next, i);
         }
         match deed {
             Deed::Nothing => {}
