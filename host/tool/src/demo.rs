@@ -34,7 +34,8 @@ Sheet A is current. Then two nodes of one plan mark a new sheet at once:
 
 A plan runs in micro steps. In each, every node looks at the state before the
 step, and all of them act together. Here both assignments end in the same micro
-step, so both want to write one variable at one time.
+step, so both want to write one variable at one time. The executive knows
+nothing of revisions: the plan's priorities decide, the larger number first.
 ";
 
 const OLD_TOWER: &str = "
@@ -64,10 +65,11 @@ fn told_through(told: &mut String) -> Result<(), Refusal> {
     told.push_str(OPENING);
     told.push_str("\n1. A higher priority on AA: node 1 has priority 5, node 2 has priority 3\n\n");
     told.push_str(&marked(mission)?);
-    told.push_str("   The later sheet is current, and the node that lost its write knows it.\n");
+    told.push_str("   The later sheet is current, and node 2 tells that its mark was lost.\n");
     told.push_str("\n2. Equal priorities: both nodes have priority 5\n\n");
     told.push_str(&marked([(AA, 5), (B, 5)])?);
-    told.push_str("   Nothing is decided by chance: the sheet stays, and both nodes know it.\n");
+    told.push_str("   Nothing is decided by chance: the sheet stays, and both nodes tell that their\n");
+    told.push_str("   mark was lost, so that the plan or a person can decide.\n");
     told.push_str(OLD_TOWER);
     told.push_str(&marked_in_the_old_tower(mission));
     told.push_str(STAIRCASE);
@@ -93,7 +95,7 @@ fn marked(two: Two) -> Result<String, Refusal> {
     let run = session.run(100, &mut [], 0)?;
     let sheet = session.variable(VariableId(0)).unwrap_or(Value::Unknown);
     let letters = [A, B, AA].iter().find(|revision| sheet == Value::Int(revision.number));
-    let mut told = format!("   {} micro steps, then quiet.\n", run.steps);
+    let mut told = format!("   {} micro steps, then quiet: no node can move.\n", run.steps);
     told += &format!("   Current sheet: {} ({sheet})\n", letters.map_or("none", |revision| revision.letters));
     for (node, (revision, _)) in (1..).map(NodeId).zip(two) {
         told += &format!("   {node}, which marks {}: {}\n", revision.letters, upshot(&session, node));

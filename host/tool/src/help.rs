@@ -1,7 +1,7 @@
 //! The help texts.
 
 pub const ALL: &str = "\
-samblokur: a plan executive for PLEXIL whose core is proved
+samblokur: a plan executive for PLEXIL over a proved library
 
   samblokur check FILE    says whether a plan image is admitted, and why not
   samblokur show FILE     shows a plan as a tree with its conditions written out
@@ -37,9 +37,9 @@ count of micro steps, the commands issued and aborted, the statuses that each
 node went through, and the variables that changed.
 
   --events FILE   the events, a line each
-  --budget N      the most micro steps of a turn, 0 to 65535 (1000). A turn
-                  that is Spent is still Running, so the next event is refused
-                  (20 Busy)
+  --budget N      the most micro steps of a turn, 0 to 65535; default 1000. A
+                  turn that uses it up is Spent: the plan is not quiet yet, and
+                  the next event is refused (20 Busy)
   --svg OUT       a picture of the run: a row a node, a column a micro step
 
 An events file is text. Each line is one event; its entries are separated by
@@ -49,11 +49,11 @@ an empty line is passed over. Entries:
   lookup 0 = true       lookup 0 is now True (or false)
   lookup 1 = -12        lookup 1 is now -12, if it is Int; a Real may be
                         written 3, 0.5 or 1e-3
-  lookup 2 unknown      lookup 2 is not known any more
+  lookup 2 unknown      lookup 2 is unknown, as every lookup is at first
   returned 3            the command of node 3 has returned
   nothing               an event without entries; stands alone
 
-For example:  lookup 0 = true; returned 3   # the door shut, and the pump stopped
+For example:  lookup 0 = true; returned 3   # the power is on, and the scanner is done
 ";
 
 pub const DEMO: &str = "\

@@ -8,6 +8,7 @@ use crate::trouble::{Trouble, read_plan, read_text};
 use crate::turn::turn;
 use samblokur::{Plan, Session};
 use std::fs;
+use std::path::Path;
 
 pub fn run(asked: &Asked, told: &mut String) -> Result<(), Trouble> {
     let image = read_plan(&asked.plan)?;
@@ -16,13 +17,20 @@ pub fn run(asked: &Asked, told: &mut String) -> Result<(), Trouble> {
         Some(file) => events::read(file, &read_text(file)?, &plan.records())?,
         None => Vec::new(),
     };
-    let mut picture = Picture::new(plan);
+    let mut picture = Picture::new(title(asked), plan);
     let ending = turns(asked, plan, &events, &mut picture, told);
     // A refused event ends the run; the picture shows what came before it.
     if let Some(file) = &asked.svg {
         fs::write(file, picture.svg()).map_err(|why| Trouble::Write { file: file.clone(), why })?;
     }
     ending
+}
+
+/// The names of the files.
+fn title(asked: &Asked) -> String {
+    let name = |file: &String| Path::new(file).file_name().unwrap_or_default().to_string_lossy().into_owned();
+    let files = [Some(&asked.plan), asked.events.as_ref()];
+    files.into_iter().flatten().map(name).collect::<Vec<_>>().join(", ")
 }
 
 fn turns(
@@ -40,7 +48,10 @@ fn turns(
             .map_err(Trouble::refused(format!("the run of {}", asked.plan)))?;
         telling::tell(&turn, &session, told);
         picture.add(&turn, &session);
-        let Some(event) = events.next() else { return Ok(()) };
+        let Some(event) = events.next() else {
+            telling::end(&session, told);
+            return Ok(());
+        };
         let serial = session.next_serial();
         let taken = session.take(&event.builder.bytes(serial));
         taken.map_err(Trouble::refused(format!("event {serial} (line {}: {})", event.line, event.text)))?;

@@ -1,9 +1,9 @@
 //! A picture of a run: a row a node, a column a micro step, coloured by status.
 
 use crate::paint::{Mark, colour, escaped};
-use crate::telling::{name, upshot};
+use crate::telling::{changes, name, upshot};
 use crate::turn::{Step, Turn};
-use samblokur::{NodeId, Plan, Records, Session, Status, Word};
+use samblokur::{NodeId, Outcome, Plan, Records, Session, Status, Word};
 use std::fmt::Write;
 
 /// Columns that a picture shows at most; the text tells the rest.
@@ -20,10 +20,10 @@ const INDENT: usize = 12;
 /// The room that the legend needs.
 const LEAST_WIDTH: usize = 780;
 
-/// Columns of one turn, with the title above them and the number of the first one.
+/// Columns of one turn, with the title above them, the number of the first one, and the line below the picture.
 struct Group {
     title: String,
-    cause: String,
+    note: Option<String>,
     first: usize,
     columns: Vec<Column>,
 }
@@ -36,32 +36,32 @@ struct Column {
 
 /// The picture so far.
 pub struct Picture<'a> {
+    title: String,
     records: Records<'a>,
     nodes: u16,
     groups: Vec<Group>,
     upshots: Vec<String>,
     /// Columns taken, one also by a turn without steps.
     filled: usize,
-    steps: usize,
     left_out: usize,
 }
 
 impl<'a> Picture<'a> {
-    pub fn new(plan: Plan<'a>) -> Picture<'a> {
+    pub fn new(title: String, plan: Plan<'a>) -> Picture<'a> {
         Picture {
+            title,
             records: plan.records(),
             nodes: plan.counts().nodes,
             groups: Vec::new(),
             upshots: Vec::new(),
             filled: 0,
-            steps: 0,
             left_out: 0,
         }
     }
 
     /// Adds a turn's columns; the first turn begins with the fresh state.
     pub fn add(&mut self, turn: &Turn, session: &Session) {
-        self.upshots = (0..self.nodes).map(|node| upshot(session, NodeId(node))).collect();
+        self.upshots = (0..self.nodes).map(|node| came_of(session, NodeId(node))).collect();
         let mut columns = Vec::new();
         if self.groups.is_empty() {
             let statuses = turn.before.status[..usize::from(self.nodes)].to_vec();
@@ -72,11 +72,10 @@ impl<'a> Picture<'a> {
         let taken = columns.len().max(1);
         if self.filled < MOST {
             let title = turn.cause.split(" (").next().unwrap_or("").to_string();
-            let first = if self.groups.is_empty() { 0 } else { self.steps + 1 };
-            self.groups.push(Group { title, cause: turn.cause.clone(), first, columns });
+            let first = usize::from(!self.groups.is_empty());
+            self.groups.push(Group { title, note: note(turn, session), first, columns });
         }
         self.filled += taken;
-        self.steps += turn.steps.len();
         self.left_out += turn.steps.len() - room;
     }
 
@@ -94,9 +93,10 @@ impl<'a> Picture<'a> {
         format!(
             r##"<svg xmlns="http://www.w3.org/2000/svg" width="{w}" height="{h}" viewBox="0 0 {w} {h}" font-family="DejaVu Sans, Verdana, sans-serif" font-size="12">
 <rect width="{w}" height="{h}" fill="#fff"/>
-<text x="{MARGIN}" y="28" font-size="16">A run, micro step by micro step</text>
+<text x="{MARGIN}" y="28" font-size="16">{}</text>
 {body}</svg>
-"##
+"##,
+            escaped(&self.title)
         )
     }
 
@@ -116,7 +116,8 @@ impl<'a> Picture<'a> {
         for (node, upshot) in (0..self.nodes).map(NodeId).zip(&self.upshots) {
             let (x, y) = (MARGIN + INDENT * self.depth(node), row(node.0) + 15);
             let _ = writeln!(body, r#"<text x="{x}" y="{y}">{}</text>"#, escaped(&name(&self.records, node)));
-            let _ = writeln!(body, r#"<text x="{right}" y="{y}">{}</text>"#, escaped(upshot));
+            let ink = if upshot.starts_with(Outcome::Failure.word()) { "#b00020" } else { "#000" };
+            let _ = writeln!(body, r#"<text x="{right}" y="{y}" fill="{ink}">{}</text>"#, escaped(upshot));
         }
     }
 
@@ -145,7 +146,7 @@ impl<'a> Picture<'a> {
         }
     }
 
-    /// The legend and the causes of the turns; the last line's place.
+    /// The legend and a line for each turn; the last line's place.
     fn draw_notes(&self, body: &mut String, top: usize) -> usize {
         let (mut x, mut y) = (MARGIN, top);
         for &status in Status::ALL {
@@ -160,15 +161,30 @@ impl<'a> Picture<'a> {
             let _ = writeln!(body, r#"<text x="{}" y="{y}">{word}</text>"#, x + 20);
             x += 40 + 8 * word.len();
         }
+        let cells = "A cell has the status after the step above it; 0 is the fresh state.".to_string();
         let cut = (self.left_out > 0).then(|| format!("The last {} steps are not shown.", self.left_out));
-        let causes = self.groups.iter().map(|group| group.cause.clone()).filter(|cause| cause.contains('('));
+        let notes = self.groups.iter().filter_map(|group| group.note.clone());
         y += 10;
-        for text in causes.chain(cut) {
+        for text in [cells].into_iter().chain(notes).chain(cut) {
             y += 18;
             let _ = writeln!(body, r#"<text x="{MARGIN}" y="{y}">{}</text>"#, escaped(&text));
         }
         y
     }
+}
+
+/// A node's outcome and failure, or that it has not come to any.
+fn came_of(session: &Session, node: NodeId) -> String {
+    match session.status(node) {
+        Some(Status::Inactive | Status::Waiting) => "not started".to_string(),
+        _ => upshot(session, node),
+    }
+}
+
+/// What a turn was caused by, and the variables that it changed.
+fn note(turn: &Turn, session: &Session) -> Option<String> {
+    let told: Vec<String> = [turn.cause.clone()].into_iter().chain(changes(turn, session)).collect();
+    (told.len() > 1 || turn.cause.contains('(')).then(|| told.join("; "))
 }
 
 fn column(step: &Step) -> Column {

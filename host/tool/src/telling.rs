@@ -20,19 +20,30 @@ pub fn tell(turn: &Turn, session: &Session, told: &mut String) {
     for node in (0..session.plan().counts().nodes).map(NodeId) {
         statuses(turn, session, node, told);
     }
-    variables(turn, session, told);
+    for change in changes(turn, session) {
+        let _ = writeln!(told, "  {change}");
+    }
 }
 
-fn variables(turn: &Turn, session: &Session, told: &mut String) {
+/// The variables that a turn changed.
+pub fn changes(turn: &Turn, session: &Session) -> Vec<String> {
     let earlier = Session::kept(session.plan(), turn.before.clone(), session.card());
-    for variable in (0..session.plan().counts().vars).map(VariableId) {
-        let (before, after) = (earlier.variable(variable), session.variable(variable));
-        if let (Some(before), Some(after)) = (before, after)
-            && before != after
-        {
-            let _ = writeln!(told, "  {variable}: {before} → {after}");
-        }
-    }
+    let change = |variable| {
+        let (before, after) = (earlier.variable(variable)?, session.variable(variable)?);
+        (before != after).then(|| format!("{variable}: {before} → {after}"))
+    };
+    (0..session.plan().counts().vars).map(VariableId).filter_map(change).collect()
+}
+
+/// Where the plan stands after its last turn.
+pub fn end(session: &Session, told: &mut String) {
+    let root = NodeId(0);
+    let status = session.status(root).map_or("?", Status::word);
+    let upshot = upshot(session, root);
+    let _ = match upshot.is_empty() {
+        true => writeln!(told, "at the end {root} is {status}"),
+        false => writeln!(told, "at the end {root} is {status}: {upshot}"),
+    };
 }
 
 fn words(turn: &Turn, records: &Records, told: &mut String) {
@@ -62,11 +73,11 @@ fn statuses(turn: &Turn, session: &Session, node: NodeId, told: &mut String) {
     let _ = writeln!(told, "  {node}: {}{upshot}", shortened(&path));
 }
 
-/// A long path keeps its first statuses and its last ones.
+/// A long path keeps its first statuses and its last ones; what is left out is worth its words.
 fn shortened(path: &[u8]) -> String {
     let word = |&status: &u8| Status::of(status).map_or("?", Status::word).to_string();
     let mut words: Vec<String> = path.iter().map(word).collect();
-    if words.len() > MOST {
+    if words.len() > MOST + 3 {
         let moves = format!("… {} moves …", words.len() - MOST + 1);
         let (from, to) = (MOST - 3, words.len() - 3);
         words.splice(from..to, [moves]);
@@ -87,8 +98,8 @@ pub fn upshot(session: &Session, node: NodeId) -> String {
 pub fn name(records: &Records, node: NodeId) -> String {
     let Some(record) = records.node(node) else { return node.to_string() };
     match record.body() {
-        Some(Body::List) => format!("{node} list"),
-        Some(Body::Command) => format!("{node} command {}", record.what),
-        _ => format!("{node} variable {} :=", record.what),
+        Some(Body::List) => format!("{node}: list"),
+        Some(Body::Command) => format!("{node}: command {}", record.what),
+        _ => format!("{node}: sets variable {}", record.what),
     }
 }
