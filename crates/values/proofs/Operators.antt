@@ -8,7 +8,7 @@ use Rattle.plexil.specs.Values.{numeric}
 use Rattle.plexil.specs.declared.Worked.{Worked}
 use Rattle.plexil.specs.declared.Pair.{Pair}
 use Rattle.plexil.specs.declared.Pair.the-variants as two
-use Rattle.values.proofs.Integers.{seen, both-back}
+use Rattle.arithmetic.proofs.Integers.{seen, both-back}
 
 module _ (i : ℤ → ℤ → Worked) (r : Float → Float → Worked) {p : Pair} where
   pub of-ints : {x y : ℤ} → mag x < 2 ^ 63 → mag y < 2 ^ 63 → p ≡ two.Ints x y → i (seen x) (seen y) ≡ numeric i r p

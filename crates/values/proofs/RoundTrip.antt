@@ -15,8 +15,8 @@ use Rattle.plexil.specs.Values.{inRange, intIn, finite, realIn, known, goodBits
 use Rattle.plexil.specs.declared.Worked.{Worked}
 use Rattle.plexil.specs.declared.Worked.the-variants as w
 use Rattle.plexil.proofs.ListLaws.{if-true, if-either}
-use Rattle.values.proofs.Integers.{back, in-range}
-use Rattle.values.proofs.Finite.{no-nan, real-yes}
+use Rattle.arithmetic.proofs.Integers.{back, in-range}
+use Rattle.arithmetic.proofs.Finite.{no-nan, real-yes}
 
 -- the values that a cell holds: no Clash, an Int in range, a finite Real of 64 bits
 abbrev pub Keepable : Worked → Type 0

@@ -1,5 +1,5 @@
 // How a value is kept: a tag and 64 bits.
-use crate::reals::is_finite;
+use arithmetic::is_finite;
 use plexil::Cell;
 use plexil::Worked;
 ghost use mathlib.Core.Path.{_≡_};

@@ -1,8 +1,8 @@
 // LT, LE, ADD, SUB and MUL: "10 to 14 take two Int or two Real".
-use crate::ints::add_int;
-use crate::ints::mul_int;
-use crate::ints::sub_int;
-use crate::reals::real_in;
+use arithmetic::add_int;
+use arithmetic::mul_int;
+use arithmetic::real_in;
+use arithmetic::sub_int;
 use plexil::Pair;
 use plexil::Worked;
 ghost use mathlib.Core.Path.{_≡_};

@@ -3,8 +3,8 @@ use mathlib.Core.Path.{sym, ap, _∙_}
 use mir.Syntax.{w64}
 use mir.Val.{ofZ}
 use Rattle.plexil.proofs.ListLaws.{if-true, if-false}
-use Rattle.values.proofs.Integers.{back}
-use Rattle.values.proofs.Finite.{no-nan}
+use Rattle.arithmetic.proofs.Integers.{back}
+use Rattle.arithmetic.proofs.Finite.{no-nan}
 use Rattle.plexil.specs.Values.{cell, encode}
 use borrow.Author.Needs.{needs}
 use Rattle.values.proofs.cells.encode.Statement.{statement}

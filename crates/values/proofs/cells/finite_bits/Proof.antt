@@ -1,5 +1,5 @@
 -- The exponent is not all ones.
-use Rattle.values.proofs.Finite.{finite-bits}
+use Rattle.arithmetic.proofs.Finite.{finite-bits}
 use Rattle.values.proofs.cells.finite_bits.Statement.{statement}
 use Rattle.values.proofs.cells.finite_bits.Tie as tie
 

@@ -1,5 +1,5 @@
 -- The bits of a number below 0 are those of -1 less it, each turned over.
-use Rattle.values.proofs.Integers.{flip-fits, flip-casts, flip-small, casts, bits-below, bits-from-0}
+use Rattle.arithmetic.proofs.Integers.{flip-fits, flip-casts, flip-small, casts, bits-below, bits-from-0}
 use Rattle.values.proofs.cells.int_bits.Statement.{statement}
 use Rattle.values.proofs.cells.int_bits.Tie as tie
 

@@ -4,7 +4,7 @@ use mir.Syntax.{w64}
 use mir.Val.{SFits}
 use mir.Facts.{toZ-ofZ}
 use mir.ValLaws.{toZ-fits}
-use Rattle.values.proofs.Integers.{int-below}
+use Rattle.arithmetic.proofs.Integers.{int-below}
 use borrow.Author.Needs.{needs}
 use Rattle.values.proofs.cells.int_of.Statement.{statement}
 use Rattle.values.proofs.cells.int_of.Tie as tie

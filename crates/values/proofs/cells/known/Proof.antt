@@ -1,7 +1,7 @@
 -- A value by its kind.
 use mathlib.Core.Path.{sym, ap, _∙_}
-use Rattle.values.proofs.Integers.{back}
-use Rattle.values.proofs.Finite.{real-yes, real-no, no-nan-bits}
+use Rattle.arithmetic.proofs.Integers.{back}
+use Rattle.arithmetic.proofs.Finite.{real-yes, real-no, no-nan-bits}
 use Rattle.values.proofs.Tags.{no-known}
 use Rattle.plexil.specs.Values.{known}
 use Rattle.plexil.specs.declared.Worked.the-variants as w

@@ -1,6 +1,6 @@
 -- EQ by the kinds of both operands; the machine compares Ints by their bits.
 use mathlib.Core.Path.{ap}
-use Rattle.values.proofs.Integers.{eq-bits}
+use Rattle.arithmetic.proofs.Integers.{eq-bits}
 use Rattle.plexil.specs.Values.{eqOf}
 use Rattle.plexil.specs.declared.Worked.the-variants as w
 use borrow.Author.Needs.{needs}

@@ -1,5 +1,5 @@
 -- The common kind of two operands.
-use Rattle.values.proofs.Integers.{both-back}
+use Rattle.arithmetic.proofs.Integers.{both-back}
 use Rattle.plexil.specs.Values.{pairOf}
 use Rattle.plexil.specs.declared.Pair.the-variants as two
 use borrow.Author.Needs.{needs}

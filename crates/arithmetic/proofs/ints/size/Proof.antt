@@ -1,8 +1,8 @@
 -- The size of a number below 0 is one more than that of -1 less it.
-use Rattle.values.proofs.Integers.{flip-fits, flip-casts, casts, plus-fits, size-below}
+use Rattle.arithmetic.proofs.Integers.{flip-fits, flip-casts, casts, plus-fits, size-below}
 use borrow.Author.Needs.{needs}
-use Rattle.values.proofs.ints.size.Statement.{statement}
-use Rattle.values.proofs.ints.size.Tie as tie
+use Rattle.arithmetic.proofs.ints.size.Statement.{statement}
+use Rattle.arithmetic.proofs.ints.size.Tie as tie
 
 pub size-spec : {M : Type 1} → statement M
 size-spec =

@@ -1,8 +1,8 @@
 -- Below +infinity and above -infinity.
 use lib.Ieee.{nanBits, ofBits, neg}
-use Rattle.values.proofs.Finite.{between, not-between}
-use Rattle.values.proofs.reals.is_finite.Statement.{statement}
-use Rattle.values.proofs.reals.is_finite.Tie as tie
+use Rattle.arithmetic.proofs.Finite.{between, not-between}
+use Rattle.arithmetic.proofs.reals.is_finite.Statement.{statement}
+use Rattle.arithmetic.proofs.reals.is_finite.Tie as tie
 
 pub is-finite-spec : {M : Type 1} → statement M
 unfolding nanBits ofBits neg

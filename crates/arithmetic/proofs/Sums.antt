@@ -10,7 +10,7 @@ use mir.Val.{SFits}
 use mir.Facts.{toZ-ofZ}
 use Rattle.plexil.specs.Values.{intIn}
 use Rattle.plexil.specs.declared.Worked.the-variants as w
-use Rattle.values.proofs.Integers.{least, most, up, dn, seen, seen-fits, of-seen, sum-law, neg-up, neg-dn, no-up, no-dn, lt-yes, lt-no, range-law, fits-of, above-range, below-range, int-back}
+use Rattle.arithmetic.proofs.Integers.{least, most, up, dn, seen, seen-fits, of-seen, sum-law, neg-up, neg-dn, no-up, no-dn, lt-yes, lt-no, range-law, fits-of, above-range, below-range, int-back}
 
 abbrev pub shift : Bool → ℤ → ℤ → ℤ
 shift true x y = x +ℤ y

@@ -1,9 +1,9 @@
 -- A result that is not finite is Unknown.
 use mathlib.Core.Path.{sym, _∙_}
-use Rattle.values.proofs.Finite.{real-yes, real-no}
+use Rattle.arithmetic.proofs.Finite.{real-yes, real-no}
 use borrow.Author.Needs.{needs}
-use Rattle.values.proofs.reals.real_in.Statement.{statement}
-use Rattle.values.proofs.reals.real_in.Tie as tie
+use Rattle.arithmetic.proofs.reals.real_in.Statement.{statement}
+use Rattle.arithmetic.proofs.reals.real_in.Tie as tie
 
 pub real-in-spec : {M : Type 1} → statement M
 real-in-spec =

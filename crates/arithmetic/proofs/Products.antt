@@ -13,8 +13,8 @@ use mir.Facts.{toZ-ofZ}
 use Rattle.plexil.specs.Lists.{if_then_else_}
 use Rattle.plexil.specs.Values.{intIn, inRange}
 use Rattle.plexil.specs.declared.Worked.the-variants as w
-use Rattle.values.proofs.Integers.{seen, of-seen, neg-up, neg-dn, fits-of, above-range, below-range, int-back}
-use Rattle.values.proofs.Sums.{rise, fall}
+use Rattle.arithmetic.proofs.Integers.{seen, of-seen, neg-up, neg-dn, fits-of, above-range, below-range, int-back}
+use Rattle.arithmetic.proofs.Sums.{rise, fall}
 
 -- the greatest size that a product has in the range
 abbrev pub limit : Bool → ℕ

@@ -1,8 +1,8 @@
 -- A sum passes only the end that y moves x towards.
 use mathlib.Core.Bool.{true}
-use Rattle.values.proofs.Sums.{low-fits, below, not-below, high-fits, above, not-above}
-use Rattle.values.proofs.ints.add_int.Statement.{statement}
-use Rattle.values.proofs.ints.add_int.Tie as tie
+use Rattle.arithmetic.proofs.Sums.{low-fits, below, not-below, high-fits, above, not-above}
+use Rattle.arithmetic.proofs.ints.add_int.Statement.{statement}
+use Rattle.arithmetic.proofs.ints.add_int.Tie as tie
 
 pub add-int-spec : {M : Type 1} → statement M
 add-int-spec =

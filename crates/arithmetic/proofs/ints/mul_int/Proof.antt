@@ -1,9 +1,9 @@
 -- Sizes of 31 bits have a product in range; of others a division tells whether the product passes an end.
 use mathlib.Core.Bool.{true, false}
-use Rattle.values.proofs.Products.{small, zero-size, past-end, not-past-end}
+use Rattle.arithmetic.proofs.Products.{small, zero-size, past-end, not-past-end}
 use borrow.Author.Needs.{needs}
-use Rattle.values.proofs.ints.mul_int.Statement.{statement}
-use Rattle.values.proofs.ints.mul_int.Tie as tie
+use Rattle.arithmetic.proofs.ints.mul_int.Statement.{statement}
+use Rattle.arithmetic.proofs.ints.mul_int.Tie as tie
 
 pub mul-int-spec : {M : Type 1} → statement M
 mul-int-spec =

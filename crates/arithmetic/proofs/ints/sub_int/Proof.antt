@@ -1,8 +1,8 @@
 -- A difference passes only the end that y moves x towards.
 use mathlib.Core.Bool.{false}
-use Rattle.values.proofs.Sums.{low-fits, below, not-below, high-fits, above, not-above}
-use Rattle.values.proofs.ints.sub_int.Statement.{statement}
-use Rattle.values.proofs.ints.sub_int.Tie as tie
+use Rattle.arithmetic.proofs.Sums.{low-fits, below, not-below, high-fits, above, not-above}
+use Rattle.arithmetic.proofs.ints.sub_int.Statement.{statement}
+use Rattle.arithmetic.proofs.ints.sub_int.Tie as tie
 
 pub sub-int-spec : {M : Type 1} → statement M
 sub-int-spec =
