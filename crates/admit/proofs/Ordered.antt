@@ -10,7 +10,7 @@ use Rattle.plexil.specs.declared.Rule.the-variants as rule
 use Rattle.plexil.specs.Image.{Image, exprCount, operator, operandA, operandB}
 use Rattle.plexil.specs.Expressions.{Binary, andOp, orOp, eqOp, ltOp, leOp, addOp, subOp, mulOp, operatorOf, operatorAt}
 use Rattle.plexil.specs.Records.{goodCount, operand, takes, kindOfA, goodBinary, goodOperator, goodExpression}
-use Rattle.plexil.specs.Check.{records, breaks}
+use Rattle.plexil.specs.Check.{records, breaks, ruleOn}
 use Rattle.plexil.proofs.ListLaws.{not-both, every-at, first-nowhere, same?}
 use Rattle.admit.specs.Depth.{Passed}
 use Rattle.plexil.proofs.OperatorNumbers.{a-binary, no-operator}
@@ -32,12 +32,12 @@ lower p e a k h = ltb-true a e (every-at _ 0 h)
 
 module _ (p : Image) (passed : Passed p) where
   pub few : exprCount p ≤ 2048
-  unfolding records breaks goodCount
+  unfolding records breaks ruleOn goodCount
   few = leb-true _ _ (every-at _ 2 (not-false (goodCount p) (first-nowhere 1 (breaks rule.Count p) (passed .count) 0 (omega arith))))
 
   module _ (e : ℕ) (below : e < exprCount p) {op : ℕ} (is : op ≡ operator p e) where
     good : goodOperator (operatorOf op) p e ≡ true
-    unfolding records breaks goodExpression operatorAt
+    unfolding records breaks ruleOn goodExpression operatorAt
     good =
         rw is
         (every-at _ 1 (not-false (goodExpression p e) (first-nowhere (exprCount p) (breaks rule.Expression p) (passed .expression) e below)))

@@ -1,16 +1,17 @@
 -- The walks of rule 12, one step at a time.
 use Prim.Native.Nat.{ℕ, zero, suc, _-_, _≤_, _<_}
 use mathlib.Core.Path.{_≡_, refl, sym, ap, _∙_}
-use mathlib.Core.Bool.{Bool, true, false}
+use mathlib.Core.Bool.{Bool, true, false, not}
 use mathlib.Core.List.{[], _∷_}
 use native.Mathlib.Omega.{arith}
+use lib.Dec.{eqb}
 use borrow.Author.Tests.{eq-eqb, ne-eqb}
-use Rattle.plexil.specs.Lists.{if_then_else_, every}
+use Rattle.plexil.specs.Lists.{if_then_else_, every, some}
 use Rattle.plexil.specs.Image.{Image, parent, operator, operandA, operandB}
 use Rattle.plexil.specs.Expressions.{Operator, operatorOf, operatorAt}
-use Rattle.plexil.specs.Scope.{isAbove, inScope, leafInScope, ownInScope, operandsPass, treeInScope}
+use Rattle.plexil.specs.Scope.{isAbove, inScope, entryInScope, operandsPass, treeInScope}
 use Rattle.plexil.proofs.ListLaws.{if-same}
-use Rattle.plexil.proofs.OperatorNumbers.{a-binary, no-operator}
+use Rattle.plexil.proofs.OperatorNumbers.{a-leaf, a-binary, no-operator}
 
 -- ---- up to node 0
 pub above-here : (p : Image) (n o i : ℕ) → 0 < n → o ≡ i → isAbove p n o i ≡ true
@@ -43,41 +44,39 @@ tree-none p i d e h = rw h
 
 -- op is the operator of entry e
 module _ (p : Image) (i d e : ℕ) (deep : d ≡ 0 → ⊥) {op : ℕ} (is : op ≡ operator p e) where
-  own-and-operands : Operator → Bool
-  own-and-operands o = every (ownInScope o p i e ∷ operandsPass o p e (λ x. treeInScope p i (d - 1) x) ∷ [])
+  operands : Operator → Bool
+  operands o = operandsPass o p e (λ x. treeInScope p i (d - 1) x)
 
-  step : treeInScope p i d e ≡ own-and-operands (operatorOf op)
-  unfolding treeInScope operatorAt own-and-operands
-  step =
-      ap (λ (k : ℕ). treeInScope p i k e) {x = d} {y = suc (d - 1)} (omega (arith, deep))
-      ∙ ap (λ (k : ℕ). own-and-operands (operatorOf k)) (sym is)
+  -- the entry itself, and its operands
+  both : ℕ → Bool
+  both n = every (some (not (eqb n 1) ∷ inScope p i (operandA p e) ∷ []) ∷ operands (operatorOf n) ∷ [])
+
+  step : treeInScope p i d e ≡ both op
+  unfolding treeInScope entryInScope operatorAt both operands
+  step = ap (λ (k : ℕ). treeInScope p i k e) {x = d} {y = suc (d - 1)} (omega (arith, deep)) ∙ ap both (sym is)
 
   pub tree-variable : op ≡ 1 → treeInScope p i d e ≡ inScope p i (operandA p e)
-  unfolding own-and-operands operatorOf ownInScope leafInScope operandsPass every if_then_else_
-  tree-variable h = step ∙ rw h (if-same _)
+  unfolding both operands operatorOf operandsPass every some if_then_else_
+  tree-variable h = step ∙ rw h (if-same _ ∙ if-same _)
+
+  -- an entry that reads no variable
+  step-on : (op ≡ 1 → ⊥) → {o : Operator} → operatorOf op ≡ o → treeInScope p i d e ≡ operands o
+  unfolding both every some if_then_else_
+  step-on h q = step ∙ rw (ne-eqb op 1 h, q) (if-same _)
 
   pub tree-leaf : op < 6 → (op ≡ 1 → ⊥) → treeInScope p i d e ≡ true
-  unfolding own-and-operands operatorOf ownInScope leafInScope operandsPass every if_then_else_
-  tree-leaf h g = step ∙ go op h g
-    where
-      go : (n : ℕ) → n < 6 → (n ≡ 1 → ⊥) → own-and-operands (operatorOf n) ≡ true
-      go zero h g = refl
-      go (suc zero) h g = absurd (g refl)
-      go (suc (suc zero)) h g = refl
-      go (suc (suc (suc zero))) h g = refl
-      go (suc (suc (suc (suc zero)))) h g = refl
-      go (suc (suc (suc (suc (suc zero))))) h g = refl
-      go (suc (suc (suc (suc (suc (suc n)))))) h g = absurd (omega arith)
+  unfolding operands operandsPass
+  tree-leaf h g = step-on g (a-leaf op h .1)
 
   pub tree-no-operator : 14 < op → treeInScope p i d e ≡ true
-  unfolding own-and-operands ownInScope operandsPass every if_then_else_
-  tree-no-operator h = step ∙ rw (no-operator op h)
+  unfolding operands operandsPass
+  tree-no-operator h = step-on (λ q. omega arith) (no-operator op h)
 
   pub tree-not : op ≡ 6 → treeInScope p i d e ≡ treeInScope p i (d - 1) (operandA p e)
-  unfolding own-and-operands operatorOf ownInScope operandsPass every if_then_else_
-  tree-not h = step ∙ rw h (if-same _)
+  unfolding operands operatorOf operandsPass
+  tree-not h = step-on (λ q. omega arith) (ap operatorOf h)
 
   pub tree-binary : 6 ≤ op → (op ≡ 6 → ⊥) → op ≤ 14
       → treeInScope p i d e ≡ every (treeInScope p i (d - 1) (operandA p e) ∷ treeInScope p i (d - 1) (operandB p e) ∷ [])
-  unfolding own-and-operands ownInScope operandsPass every if_then_else_
-  tree-binary h n g = step ∙ rw (a-binary op (omega (arith, n)) g .1) (if-same _)
+  unfolding operands operandsPass
+  tree-binary h n g = step-on (λ q. omega arith) (a-binary op (omega (arith, n)) g .1)

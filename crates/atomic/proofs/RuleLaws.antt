@@ -17,19 +17,19 @@ use mathlib.Core.Bool.{Bool, true, false, not}
 use lib.Dec.{eqb}
 use Rattle.plexil.specs.declared.State.{State}
 use Rattle.plexil.specs.declared.Condition.{Condition}
-use Rattle.plexil.specs.Values.{isTrue, isFalse}
+use Rattle.plexil.specs.Values.{isBool}
 use Rattle.plexil.specs.Image.{Image}
 use Rattle.plexil.specs.Atomic.{isOff, parentStatus, defaultOf, holds, fails, byStatus, moveBy, moveOf}
 use Rattle.evaluate.specs.Condition.{conditionOr}
 use Rattle.evaluate.proofs.Laws.{condition-or}
 
-pub holds-is : (p : Image) (s : State) (i : ℕ) (c : Condition) (d : Bool) {b : Bool} → d ≡ defaultOf p s i c → b ≡ isTrue (conditionOr p s i c d) → holds p s i c ≡ b
+pub holds-is : (p : Image) (s : State) (i : ℕ) (c : Condition) (d : Bool) {b : Bool} → d ≡ defaultOf p s i c → b ≡ isBool true (conditionOr p s i c d) → holds p s i c ≡ b
 unfolding holds
-holds-is p s i c d e h = ap isTrue (condition-or p s i c ∙ ap (conditionOr p s i c) (sym e)) ∙ sym h
+holds-is p s i c d e h = ap (isBool true) (condition-or p s i c ∙ ap (conditionOr p s i c) (sym e)) ∙ sym h
 
-pub fails-is : (p : Image) (s : State) (i : ℕ) (c : Condition) (d : Bool) {b : Bool} → d ≡ defaultOf p s i c → b ≡ isFalse (conditionOr p s i c d) → fails p s i c ≡ b
+pub fails-is : (p : Image) (s : State) (i : ℕ) (c : Condition) (d : Bool) {b : Bool} → d ≡ defaultOf p s i c → b ≡ isBool false (conditionOr p s i c d) → fails p s i c ≡ b
 unfolding fails
-fails-is p s i c d e h = ap isFalse (condition-or p s i c ∙ ap (conditionOr p s i c) (sym e)) ∙ sym h
+fails-is p s i c d e h = ap (isBool false) (condition-or p s i c ∙ ap (conditionOr p s i c) (sym e)) ∙ sym h
 
 pub inv-default : (p : Image) (s : State) (i : ℕ) → true ≡ defaultOf p s i Inv
 unfolding defaultOf

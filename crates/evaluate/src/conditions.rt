@@ -2,9 +2,10 @@
 use super::entries::value_of;
 use plexil::Worked;
 ghost use mathlib.Core.Path.{_≡_};
+ghost use mathlib.Core.Bool.{true, false};
 ghost use mathlib.Core.List.{List};
 ghost use Prim.Native.Nat.{ℕ};
-ghost use Rattle.plexil.specs.Values.{isTrue, isFalse};
+ghost use Rattle.plexil.specs.Values.{isBool};
 ghost use Rattle.plexil.specs.Places.{stateOf};
 ghost use Rattle.evaluate.specs.Condition.{conditionOr};
 
@@ -54,9 +55,9 @@ pub fn holds<'a>(
     c: plexil::Condition,
     normal: bool,
 ) -> bool
-    ensures { λ r. ⌜ ((mark : List ℕ) → r ≡ isTrue (conditionOr (now (image .entry)) (stateOf (now (status .entry)) (now (outcome .entry)) (now (failure .entry)) mark (now (vartags .entry)) (now (varbits .entry)) (now (looktags .entry)) (now (lookbits .entry))) i c normal)) ⌝ }
+    ensures { λ r. ⌜ ((mark : List ℕ) → r ≡ isBool true (conditionOr (now (image .entry)) (stateOf (now (status .entry)) (now (outcome .entry)) (now (failure .entry)) mark (now (vartags .entry)) (now (varbits .entry)) (now (looktags .entry)) (now (lookbits .entry))) i c normal)) ⌝ }
 {
-    values::is_true(condition(
+    let v = condition(
         image,
         status,
         outcome,
@@ -68,7 +69,8 @@ pub fn holds<'a>(
         i,
         c,
         normal,
-    ))
+    );
+    values::is_bool(true, v)
 }
 
 pub fn fails<'a>(
@@ -84,9 +86,9 @@ pub fn fails<'a>(
     c: plexil::Condition,
     normal: bool,
 ) -> bool
-    ensures { λ r. ⌜ ((mark : List ℕ) → r ≡ isFalse (conditionOr (now (image .entry)) (stateOf (now (status .entry)) (now (outcome .entry)) (now (failure .entry)) mark (now (vartags .entry)) (now (varbits .entry)) (now (looktags .entry)) (now (lookbits .entry))) i c normal)) ⌝ }
+    ensures { λ r. ⌜ ((mark : List ℕ) → r ≡ isBool false (conditionOr (now (image .entry)) (stateOf (now (status .entry)) (now (outcome .entry)) (now (failure .entry)) mark (now (vartags .entry)) (now (varbits .entry)) (now (looktags .entry)) (now (lookbits .entry))) i c normal)) ⌝ }
 {
-    values::is_false(condition(
+    let v = condition(
         image,
         status,
         outcome,
@@ -98,5 +100,6 @@ pub fn fails<'a>(
         i,
         c,
         normal,
-    ))
+    );
+    values::is_bool(false, v)
 }

@@ -8,7 +8,7 @@ use Rattle.plexil.specs.declared.Rule.the-variants.{Count, Tree, Node, V
 use Rattle.plexil.specs.Image.{Image, nodeCount, exprCount, varCount, lookCount, parent, owner}
 use Rattle.plexil.specs.Records.{goodCount, isList, goodParent, goodNode, goodVariable, goodLookup, goodExpression}
 use Rattle.plexil.specs.Scope.{shallow, goodKinds, goodReach}
-use Rattle.plexil.specs.Check.{records, breaks}
+use Rattle.plexil.specs.Check.{records, breaks, ruleOn}
 use Rattle.plexil.specs.Promises.{IsAdmitted}
 use Rattle.plexil.proofs.ListLaws.{every-at}
 use Rattle.plexil.proofs.Exactness.{admitted-is}
@@ -16,39 +16,39 @@ use Rattle.plexil.proofs.Exactness.{admitted-is}
 module _ (p : Image) (a : IsAdmitted p) where
   -- ---- each record by itself
   good-count : goodCount p ≡ true
-  unfolding breaks records
+  unfolding breaks ruleOn records
   good-count = not-false _ (admitted-is p a Count 0 (omega arith))
 
   good-parent : (i : ℕ) → i < nodeCount p → goodParent p i ≡ true
-  unfolding breaks records
+  unfolding breaks ruleOn records
   good-parent i b = not-false _ (admitted-is p a Tree i b)
 
   pub good-node : (i : ℕ) → i < nodeCount p → goodNode p i ≡ true
-  unfolding breaks records
+  unfolding breaks ruleOn records
   good-node i b = not-false _ (admitted-is p a Node i b)
 
   pub good-variable : (v : ℕ) → v < varCount p → goodVariable p v ≡ true
-  unfolding breaks records
+  unfolding breaks ruleOn records
   good-variable v b = not-false _ (admitted-is p a Variable v b)
 
   pub good-lookup : (l : ℕ) → l < lookCount p → goodLookup p l ≡ true
-  unfolding breaks records
+  unfolding breaks ruleOn records
   good-lookup l b = not-false _ (admitted-is p a Lookup l b)
 
   pub good-expression : (e : ℕ) → e < exprCount p → goodExpression p e ≡ true
-  unfolding breaks records
+  unfolding breaks ruleOn records
   good-expression e b = not-false _ (admitted-is p a Expression e b)
 
   pub is-shallow : (e : ℕ) → e < exprCount p → shallow p e ≡ true
-  unfolding breaks records
+  unfolding breaks ruleOn records
   is-shallow e b = not-false _ (admitted-is p a Deep e b)
 
   pub good-kinds : (i : ℕ) → i < nodeCount p → goodKinds p i ≡ true
-  unfolding breaks records
+  unfolding breaks ruleOn records
   good-kinds i b = not-false _ (admitted-is p a Kind i b)
 
   pub good-reach : (i : ℕ) → i < nodeCount p → goodReach p i ≡ true
-  unfolding breaks records
+  unfolding breaks ruleOn records
   good-reach i b = not-false _ (admitted-is p a Reach i b)
 
   -- ---- the counts

@@ -18,7 +18,7 @@ use Rattle.plexil.specs.Image.{Image, nodeType, nodeCount}
 use Rattle.plexil.specs.Places.{statusCode, same, statusAt, outcomeAt, failureAt, markAt}
 use Rattle.plexil.specs.Records.{isList, isCommand}
 use Rattle.plexil.specs.Atomic.{isOff, parentStatus, moveOf}
-use Rattle.plexil.specs.Micro.{loses, postHolds, outcomeBy, failureBy, markBy, placeBy, place, outcomeAfter, failureAfter, step}
+use Rattle.plexil.specs.Micro.{loses, postHolds, resultBy, markBy, placeBy, place, outcomeAfter, failureAfter, step}
 use Rattle.plexil.specs.Form.{isIdle, allowed, ofType, isAwaiting, goodMark, goodPlace}
 use Rattle.plexil.specs.Promises.{IsAdmitted, IsKept}
 use Rattle.plexil.proofs.ListLaws.{if-either, every-at, every-false, every-cons, every-nil, some-stop, renew-at}
@@ -40,13 +40,13 @@ module _ (p : Image) (s : State) (i : ℕ) where
   status-small (Go a e) h = code-small a
 
   outcome-small : (m : Move) → ltb (outcomeAt s i) 4 ≡ true → ltb (placeBy p s i m .outcome) 4 ≡ true
-  unfolding placeBy outcomeBy
+  unfolding placeBy resultBy
   outcome-small Stay h = h
   outcome-small (Go a Kept) h = h
   outcome-small (Go a Cleared) h = refl
   outcome-small (Go a Skips) h = refl
   outcome-small (Go a (Failed f)) h = refl
-  outcome-small (Go a Judged) h = if-either (λ (n : ℕ). ltb n 4 ≡ true) (postHolds p s i) _ _ (λ e. refl) (λ e. refl)
+  outcome-small (Go a Judged) h = if-either (λ (r : ℕ × ℕ). ltb (r .0) 4 ≡ true) (postHolds p s i) _ _ (λ e. refl) (λ e. refl)
 
   reason-small : (c u a : Status) (f : ℕ) → Made p s i c u (Go a (Failed f)) → f < 6
   reason-small c u a f refuses = omega arith
@@ -54,13 +54,13 @@ module _ (p : Image) (s : State) (i : ℕ) where
   reason-small c u a f (dropsOut o b t) = b
 
   failure-small : (c u : Status) (m : Move) → Made p s i c u m → ltb (failureAt s i) 6 ≡ true → ltb (placeBy p s i m .failure) 6 ≡ true
-  unfolding placeBy failureBy
+  unfolding placeBy resultBy
   failure-small c u Stay d h = h
   failure-small c u (Go a Kept) d h = h
   failure-small c u (Go a Cleared) d h = refl
   failure-small c u (Go a Skips) d h = h
   failure-small c u (Go a (Failed f)) d h = lt-ltb f 6 (reason-small c u a f d)
-  failure-small c u (Go a Judged) d h = if-either (λ (n : ℕ). ltb n 6 ≡ true) (postHolds p s i) _ _ (λ e. refl) (λ e. refl)
+  failure-small c u (Go a Judged) d h = if-either (λ (r : ℕ × ℕ). ltb (r .1) 6 ≡ true) (postHolds p s i) _ _ (λ e. refl) (λ e. refl)
 
   -- ---- a status of the node's type
   type-kept : (c u : Status) (m : Move) → Made p s i c u m → (isOff u ≡ true → ltb 0 i ≡ true) → ofType p i c ≡ true → ofType p i (landing c m) ≡ true

@@ -14,7 +14,7 @@ use Rattle.plexil.specs.declared.Move.{Move}
 use Rattle.plexil.specs.declared.Move.the-variants.{Stay, Go}
 use Rattle.plexil.specs.declared.Effect.the-variants.{Kept, Cleared, Skipped as Skips, Failed, Judged}
 use Rattle.plexil.specs.Lists.{if_then_else_, every, some, allBelow}
-use Rattle.plexil.specs.Values.{isTrue, isFalse}
+use Rattle.plexil.specs.Values.{isBool}
 use Rattle.plexil.specs.Image.{Image, default, nodeCount, parent, conditionField}
 use Rattle.plexil.specs.Places.{same, statusAt, markAt, ByPre, ByInvariant, ByParent}
 use Rattle.plexil.specs.Expressions.{valueOf}
@@ -58,10 +58,10 @@ unfoldable pub condition : Image → State → ℕ → Condition → Worked
 condition p s i c = if eqb (conditionField p i c) default then Flag (defaultOf p s i c) else valueOf p s (conditionField p i c)
 
 unfoldable pub holds : Image → State → ℕ → Condition → Bool
-holds p s i c = isTrue (condition p s i c)
+holds p s i c = isBool true (condition p s i c)
 
 unfoldable pub fails : Image → State → ℕ → Condition → Bool
-fails p s i c = isFalse (condition p s i c)
+fails p s i c = isBool false (condition p s i c)
 
 -- "Skip True, then Finished, Skipped. Else Start True: Pre True, then Executing; otherwise IterationEnded, Failure, Pre"
 unfoldable pub fromWaiting : Image → State → ℕ → Move

@@ -27,35 +27,26 @@ ruleNumber Deep = 10
 ruleNumber Kind = 11
 ruleNumber Reach = 12
 
--- how many records a rule is about: "0 for 1 to 4"
-unfoldable pub records : Rule → Image → ℕ
-records Short p = 1
-records Edition p = 1
-records Count p = 1
-records Layout p = 1
-records Tree p = nodeCount p
-records Node p = nodeCount p
-records Variable p = varCount p
-records Lookup p = lookCount p
-records Expression p = exprCount p
-records Deep p = exprCount p
-records Kind p = nodeCount p
-records Reach p = nodeCount p
+-- how many records a rule is about, and whether record i breaks it; "0 for 1 to 4"
+unfoldable pub ruleOn : Rule → Image → ℕ × (ℕ → Bool)
+ruleOn Short p = (1, λ i. short p)
+ruleOn Edition p = (1, λ i. not (eqb (edition p) 1))
+ruleOn Count p = (1, λ i. not (goodCount p))
+ruleOn Layout p = (1, λ i. not (goodLayout p))
+ruleOn Tree p = (nodeCount p, λ i. not (goodParent p i))
+ruleOn Node p = (nodeCount p, λ i. not (goodNode p i))
+ruleOn Variable p = (varCount p, λ i. not (goodVariable p i))
+ruleOn Lookup p = (lookCount p, λ i. not (goodLookup p i))
+ruleOn Expression p = (exprCount p, λ i. not (goodExpression p i))
+ruleOn Deep p = (exprCount p, λ i. not (shallow p i))
+ruleOn Kind p = (nodeCount p, λ i. not (goodKinds p i))
+ruleOn Reach p = (nodeCount p, λ i. not (goodReach p i))
 
--- record i breaks the rule
+unfoldable pub records : Rule → Image → ℕ
+records r p = ruleOn r p .0
+
 unfoldable pub breaks : Rule → Image → ℕ → Bool
-breaks Short p i = short p
-breaks Edition p i = not (eqb (edition p) 1)
-breaks Count p i = not (goodCount p)
-breaks Layout p i = not (goodLayout p)
-breaks Tree p i = not (goodParent p i)
-breaks Node p i = not (goodNode p i)
-breaks Variable p i = not (goodVariable p i)
-breaks Lookup p i = not (goodLookup p i)
-breaks Expression p i = not (goodExpression p i)
-breaks Deep p i = not (shallow p i)
-breaks Kind p i = not (goodKinds p i)
-breaks Reach p i = not (goodReach p i)
+breaks r p i = ruleOn r p .1 i
 
 -- "The lowest broken of 1 to 12 is answered, with the lowest record number that breaks it"
 unfoldable pub verdictOn : List Rule → Image → Verdict
@@ -70,5 +61,5 @@ verdict p = verdictOn rules p
 
 -- opens every definition of this file
 unfoldable pub opened : Unit {0}
-unfolding ruleNumber records breaks verdictOn rules verdict
+unfolding ruleNumber ruleOn records breaks verdictOn rules verdict
 opened = tt

@@ -13,7 +13,7 @@ use Rattle.plexil.specs.Lists.{if_then_else_, every, anyBelow, Found, at
 use Rattle.plexil.specs.Bytes.{byteAt, le16, le32, le64}
 use Rattle.plexil.specs.Values.{cell, goodBits}
 use Rattle.plexil.specs.Image.{Image, nodeCount, lookCount, lookKind}
-use Rattle.plexil.specs.Places.{statusAt, markAt, knownCell, Running, Quiet}
+use Rattle.plexil.specs.Places.{stateOf, statusAt, markAt, knownCell, Running, Quiet}
 use Rattle.plexil.specs.Records.{isCommand}
 use Rattle.plexil.specs.Form.{isAwaiting}
 
@@ -82,28 +82,13 @@ eventAnswer p s c b =
     (orElse NotAwaited (first (entryCount b) (notAwaited s b)) Accepted))
 
 unfoldable pub withLookup : State → ℕ → Cell → State
-withLookup s l c = record {
-  status = s .status;
-  outcome = s .outcome;
-  failure = s .failure;
-  mark = s .mark;
-  vartags = s .vartags;
-  varbits = s .varbits;
-  looktags = set (s .looktags) l (c .tag);
-  lookbits = set (s .lookbits) l (c .bits);
-}
+withLookup s l c =
+    stateOf (s .status) (s .outcome) (s .failure) (s .mark) (s .vartags) (s .varbits)
+    (set (s .looktags) l (c .tag)) (set (s .lookbits) l (c .bits))
 
 unfoldable pub withMark : State → ℕ → State
-withMark s i = record {
-  status = s .status;
-  outcome = s .outcome;
-  failure = s .failure;
-  mark = set (s .mark) i 1;
-  vartags = s .vartags;
-  varbits = s .varbits;
-  looktags = s .looktags;
-  lookbits = s .lookbits;
-}
+withMark s i =
+    stateOf (s .status) (s .outcome) (s .failure) (set (s .mark) i 1) (s .vartags) (s .varbits) (s .looktags) (s .lookbits)
 
 -- "An accepted event changes lookups and marks"; by form
 unfoldable pub enter : Image → List ℕ → ℕ → ℕ → State → State

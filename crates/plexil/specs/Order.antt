@@ -29,58 +29,29 @@ pub record Carry : Type 0 where
   pub bits : List ℕ
   pub tied : List ℕ
 
+-- what is carried, by its arrays
+abbrev pub carryOf : List ℕ → List ℕ → List ℕ → List ℕ → List ℕ → List ℕ → List ℕ → List ℕ → List ℕ → Carry
+carryOf st oc fl mk top node tags bits tied =
+    record { status = st; outcome = oc; failure = fl; mark = mk; top = top; node = node; tags = tags; bits = bits; tied = tied }
+
 -- before the first visit
 unfoldable pub carryNothing : State → Carry
-carryNothing s = record {
-  status = s .status;
-  outcome = s .outcome;
-  failure = s .failure;
-  mark = s .mark;
-  top = replicate 128 0;
-  node = replicate 128 0;
-  tags = replicate 128 0;
-  bits = replicate 128 0;
-  tied = replicate 128 0;
-}
+carryNothing s =
+    carryOf (s .status) (s .outcome) (s .failure) (s .mark)
+    (replicate 128 0) (replicate 128 0) (replicate 128 0) (replicate 128 0) (replicate 128 0)
 
 unfoldable pub putPlace : Carry → ℕ → Place → Carry
-putPlace c i r = record {
-  status = set (c .status) i (r .status);
-  outcome = set (c .outcome) i (r .outcome);
-  failure = set (c .failure) i (r .failure);
-  mark = set (c .mark) i (r .mark);
-  top = c .top;
-  node = c .node;
-  tags = c .tags;
-  bits = c .bits;
-  tied = c .tied;
-}
+putPlace c i r =
+    carryOf (set (c .status) i (r .status)) (set (c .outcome) i (r .outcome)) (set (c .failure) i (r .failure)) (set (c .mark) i (r .mark))
+    (c .top) (c .node) (c .tags) (c .bits) (c .tied)
 
 -- a writer i of variable v with top t and value x: it leads, or is tied with the leader, or is beaten
 unfoldable pub meet : Carry → ℕ → ℕ → ℕ → Cell → Carry
 meet c v t i x =
-    if ltb (getD (c .top) v 0) t then record {
-      status = c .status;
-      outcome = c .outcome;
-      failure = c .failure;
-      mark = c .mark;
-      top = set (c .top) v t;
-      node = set (c .node) v i;
-      tags = set (c .tags) v (x .tag);
-      bits = set (c .bits) v (x .bits);
-      tied = set (c .tied) v 0;
-    }
-    else if eqb (getD (c .top) v 0) t then record {
-      status = c .status;
-      outcome = c .outcome;
-      failure = c .failure;
-      mark = c .mark;
-      top = c .top;
-      node = c .node;
-      tags = c .tags;
-      bits = c .bits;
-      tied = set (c .tied) v 1;
-    }
+    if ltb (getD (c .top) v 0) t then carryOf (c .status) (c .outcome) (c .failure) (c .mark)
+    (set (c .top) v t) (set (c .node) v i) (set (c .tags) v (x .tag)) (set (c .bits) v (x .bits)) (set (c .tied) v 0)
+    else if eqb (getD (c .top) v 0) t then carryOf (c .status) (c .outcome) (c .failure) (c .mark)
+    (c .top) (c .node) (c .tags) (c .bits) (set (c .tied) v 1)
     else c
 
 -- "a visit reads only the state before the step and what earlier visits carried on"

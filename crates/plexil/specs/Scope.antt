@@ -5,8 +5,8 @@ use mathlib.Core.List.{List, [], _∷_}
 use lib.Dec.{eqb}
 use Rattle.plexil.specs.declared.Condition.{Condition}
 use Rattle.plexil.specs.Lists.{every, some}
-use Rattle.plexil.specs.Image.{Image, default, parent, conditionField, what, valueField, resultKind, operandA, operandB, varKind, owner}
-use Rattle.plexil.specs.Expressions.{Leaf, constantOp, variableOp, lookupOp, statusOp, outcomeOp, failureOp, Operator, leaf, notOp, binary, noOperator, operatorAt}
+use Rattle.plexil.specs.Image.{Image, default, parent, conditionField, what, valueField, operator, resultKind, operandA, operandB, varKind, owner}
+use Rattle.plexil.specs.Expressions.{Operator, leaf, notOp, binary, noOperator, operatorAt}
 use Rattle.plexil.specs.Records.{isAssignment, allConditions}
 
 -- each operand of entry e passes
@@ -47,24 +47,14 @@ isAbove p (suc n) o (suc i) = elim (eqb o (suc i)) [ true ↦ true | false ↦ i
 unfoldable pub inScope : Image → ℕ → ℕ → Bool
 inScope p i v = isAbove p (suc i) (owner p v) i
 
-unfoldable pub leafInScope : Leaf → Image → ℕ → ℕ → Bool
-leafInScope constantOp p i e = true
-leafInScope variableOp p i e = inScope p i (operandA p e)
-leafInScope lookupOp p i e = true
-leafInScope statusOp p i e = true
-leafInScope outcomeOp p i e = true
-leafInScope failureOp p i e = true
-
-unfoldable pub ownInScope : Operator → Image → ℕ → ℕ → Bool
-ownInScope (leaf o) p i e = leafInScope o p i e
-ownInScope notOp p i e = true
-ownInScope (binary o) p i e = true
-ownInScope noOperator p i e = true
+-- "1 variable a": the one operator that reads a variable
+unfoldable pub entryInScope : Image → ℕ → ℕ → Bool
+entryInScope p i e = some (not (eqb (operator p e) 1) ∷ inScope p i (operandA p e) ∷ [])
 
 -- node i may read each variable in the tree at e, d levels down
 unfoldable pub treeInScope : Image → ℕ → ℕ → ℕ → Bool
 treeInScope p i zero e = false
-treeInScope p i (suc d) e = every (ownInScope (operatorAt p e) p i e ∷ operandsPass (operatorAt p e) p e (λ x. treeInScope p i d x) ∷ [])
+treeInScope p i (suc d) e = every (entryInScope p i e ∷ operandsPass (operatorAt p e) p e (λ x. treeInScope p i d x) ∷ [])
 
 -- "12 Reach: a node reads or assigns a variable whose owner is neither it nor above it"
 unfoldable pub goodReach : Image → ℕ → Bool
@@ -73,5 +63,5 @@ goodReach p i =
 
 -- opens every definition of this file
 unfoldable pub opened : Unit {0}
-unfolding operandsPass depthWithin shallow givenPass assigns goodKinds isAbove inScope leafInScope ownInScope treeInScope goodReach
+unfolding operandsPass depthWithin shallow givenPass assigns goodKinds isAbove inScope entryInScope treeInScope goodReach
 opened = tt

@@ -161,22 +161,15 @@ subOf = numeric (λ a b. intIn (a -ℤ b)) (λ a b. realIn (Ieee.sub binary64 a 
 unfoldable pub mulOf : Pair → Worked
 mulOf = numeric (λ a b. intIn (a *ℤ b)) (λ a b. realIn (Ieee.mul binary64 a b))
 
--- a condition is True, is False
-unfoldable pub isTrue : Worked → Bool
-isTrue Clash = false
-isTrue Unknown = false
-isTrue (Flag b) = b
-isTrue (Int z) = false
-isTrue (Real x) = false
-
-unfoldable pub isFalse : Worked → Bool
-isFalse Clash = false
-isFalse Unknown = false
-isFalse (Flag b) = not b
-isFalse (Int z) = false
-isFalse (Real x) = false
+-- a condition is True, or is False
+unfoldable pub isBool : Bool → Worked → Bool
+isBool d Clash = false
+isBool d Unknown = false
+isBool d (Flag b) = Bool·beq b d
+isBool d (Int z) = false
+isBool d (Real x) = false
 
 -- opens every definition of this file
 unfoldable pub opened : Unit {0}
-unfolding inRange intIn finite realIn known goodBits decode encode notOf decides junction andOf orOf pairOf eqZ eqOf numeric ltOf leOf addOf subOf mulOf isTrue isFalse Ieee.ofBits Ieee.toBits Ieee.add Ieee.sub Ieee.mul Ieee.lt Ieee.le Ieee.eq
+unfolding inRange intIn finite realIn known goodBits decode encode notOf decides junction andOf orOf pairOf eqZ eqOf numeric ltOf leOf addOf subOf mulOf isBool Ieee.ofBits Ieee.toBits Ieee.add Ieee.sub Ieee.mul Ieee.lt Ieee.le Ieee.eq
 opened = tt

@@ -1,7 +1,7 @@
 // NOT, and what a rule asks of a condition.
 use plexil::Worked;
 ghost use mathlib.Core.Path.{_≡_};
-ghost use Rattle.plexil.specs.Values.{notOf, isTrue, isFalse};
+ghost use Rattle.plexil.specs.Values.{notOf, isBool};
 
 // "NOT Unknown is Unknown"
 pub fn not_of(a: Worked) -> Worked
@@ -16,25 +16,14 @@ pub fn not_of(a: Worked) -> Worked
     }
 }
 
-pub fn is_true(v: Worked) -> bool
-    ensures { λ r. ⌜ r ≡ isTrue v ⌝ }
+// a condition is True (d), or is False
+pub fn is_bool(d: bool, v: Worked) -> bool
+    ensures { λ r. ⌜ r ≡ isBool d v ⌝ }
 {
     match v {
         Worked::Clash => false,
         Worked::Unknown => false,
-        Worked::Bool(b) => b,
-        Worked::Int(_) => false,
-        Worked::Real(_) => false,
-    }
-}
-
-pub fn is_false(v: Worked) -> bool
-    ensures { λ r. ⌜ r ≡ isFalse v ⌝ }
-{
-    match v {
-        Worked::Clash => false,
-        Worked::Unknown => false,
-        Worked::Bool(b) => !b,
+        Worked::Bool(b) => b == d,
         Worked::Int(_) => false,
         Worked::Real(_) => false,
     }

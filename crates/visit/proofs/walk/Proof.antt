@@ -12,7 +12,7 @@ use Rattle.plexil.specs.Micro.{sent as sentOf, stays}
 use Rattle.plexil.proofs.Admitted.{few-nodes}
 use Rattle.plexil.proofs.RenewLaws.{renew-none, stored}
 use Rattle.plexil.proofs.NodeOrder.{walkTo, walkTo-zero}
-use Rattle.visit.specs.Carried.{carryOf}
+use Rattle.plexil.specs.Order.{carryOf}
 use Rattle.visit.proofs.CarryLaws.{allBelow-or, walk-next}
 use Rattle.visit.proofs.walk.Statement.{statement}
 use Rattle.visit.proofs.walk.Tie as tie

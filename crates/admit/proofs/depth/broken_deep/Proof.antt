@@ -10,7 +10,7 @@ use Rattle.admit.specs.Depth.{Filled}
 use Rattle.admit.proofs.Ordered.{few}
 use Rattle.admit.proofs.DepthTable.{filled-start, filled-next}
 use Rattle.plexil.specs.Scope.{shallow}
-use Rattle.plexil.specs.Check.{records, breaks}
+use Rattle.plexil.specs.Check.{records, breaks, ruleOn}
 use Rattle.plexil.proofs.LoopLaws.{Upto, upto-start, upto-found, upto-next, upto-end}
 use Rattle.admit.proofs.depth.broken_deep.Statement.{statement}
 use Rattle.admit.proofs.depth.broken_deep.Tie as tie
@@ -22,7 +22,7 @@ abbrev μ-loop : tie.MeasureT-loop
 μ-loop image n depths₀ i₀ depths i = n - i
 
 pub broken-deep-spec : {M : Type 1} → statement M
-unfolding records breaks shallow
+unfolding records breaks ruleOn shallow
 broken-deep-spec =
     tie.close
     (tie.spec

@@ -4,7 +4,7 @@ use Rattle.plexil.specs.declared.Condition.the-variants.{Post}
 use Rattle.plexil.specs.Lists.{if_then_else_}
 use Rattle.plexil.specs.Places.{outcomeAt, failureAt}
 use Rattle.plexil.specs.Atomic.{defaultOf}
-use Rattle.plexil.specs.Micro.{readByPost, postHolds, outcomeBy, failureBy, placeBy}
+use Rattle.plexil.specs.Micro.{readByPost, postHolds, resultBy, placeBy}
 use Rattle.atomic.proofs.RuleLaws.{holds-is, same-place}
 use borrow.Author.Needs.{needs}
 use Rattle.atomic.proofs.moved.gone.Statement.{statement}
@@ -44,27 +44,27 @@ holds-requires : tie.Need-holds-requires
 holds-requires c κs = search needs
 
 returns : tie.Need-returns
-unfolding placeBy outcomeBy failureBy outcomeAt failureAt
+unfolding placeBy resultBy outcomeAt failureAt
 returns c = rw (c .before .before .enum-told .given .1) (same-place (c .before .before .before .before .before .status-code .ensures) (c .before .at .ensures) (c .at2 .ensures) (c .before .before .before .before .mark-by .ensures _ refl))
 
 returns-2 : tie.Need-returns-2
-unfolding placeBy outcomeBy failureBy
+unfolding placeBy resultBy
 returns-2 c = rw (c .enum-told2 .given .1) (same-place (c .before .before .before .status-code .ensures) refl refl (c .before .before .mark-by .ensures _ refl))
 
 returns-3 : tie.Need-returns-3
-unfolding placeBy outcomeBy failureBy failureAt
+unfolding placeBy resultBy failureAt
 returns-3 c = rw (c .before .enum-told3 .given .1) (same-place (c .before .before .before .before .status-code .ensures) refl (c .at3 .ensures) (c .before .before .before .mark-by .ensures _ refl))
 
 returns-4 : tie.Need-returns-4
-unfolding placeBy outcomeBy failureBy
+unfolding placeBy resultBy
 returns-4 c = rw (c .before .e .given .1) (same-place (c .before .before .before .before .status-code .ensures) refl refl (c .before .before .before .mark-by .ensures _ refl))
 
 returns-5 : tie.Need-returns-5
-unfolding placeBy outcomeBy failureBy postHolds readByPost defaultOf if_then_else_
+unfolding placeBy resultBy postHolds readByPost defaultOf if_then_else_
 returns-5 c = rw (c .before .before .enum-told4 .given .1, holds-is _ _ _ Post _ refl (c .before .holds .ensures (c .before .before .before .before .before .before .before .before .before .before .before .before .before .before .before .args .mk .now)) ∙ c .if1 .taken) (same-place (c .before .before .before .before .before .status-code .ensures) refl refl (c .before .before .before .before .mark-by .ensures _ refl))
 
 returns-6 : tie.Need-returns-6
-unfolding placeBy outcomeBy failureBy postHolds readByPost defaultOf if_then_else_
+unfolding placeBy resultBy postHolds readByPost defaultOf if_then_else_
 returns-6 c = rw (c .before .before .enum-told4 .given .1, holds-is _ _ _ Post _ refl (c .before .holds .ensures (c .before .before .before .before .before .before .before .before .before .before .before .before .before .before .before .args .mk .now)) ∙ c .if1 .left) (same-place (c .before .before .before .before .before .status-code .ensures) refl refl (c .before .before .before .before .mark-by .ensures _ refl))
 
 pub gone-spec : {M : Type 1} → statement M

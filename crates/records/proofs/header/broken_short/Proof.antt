@@ -1,11 +1,11 @@
 -- The one test is the rule's.
 use Rattle.plexil.specs.Records.{short}
-use Rattle.plexil.specs.Check.{records, breaks}
+use Rattle.plexil.specs.Check.{records, breaks, ruleOn}
 use Rattle.records.proofs.header.broken_short.Statement.{statement}
 use Rattle.records.proofs.header.broken_short.Tie as tie
 
 pub broken-short-spec : {M : Type 1} → statement M
-unfolding records breaks short
+unfolding records breaks ruleOn short
 broken-short-spec =
     tie.close
     (tie.spec

@@ -4,7 +4,7 @@ use mathlib.Core.Path.{sym, ap, _∙_}
 use native.Mathlib.Omega.{arith}
 use mathlib.Core.Bool.{not}
 use Rattle.plexil.specs.declared.Rule.the-variants as rule
-use Rattle.plexil.specs.Check.{records, breaks}
+use Rattle.plexil.specs.Check.{records, breaks, ruleOn}
 use Rattle.plexil.proofs.LoopLaws.{Upto, upto-start, upto-found, upto-next, upto-end}
 use Rattle.records.proofs.nodes.broken_node.Statement.{statement}
 use Rattle.records.proofs.nodes.broken_node.Tie as tie
@@ -16,7 +16,7 @@ abbrev μ-loop : tie.MeasureT-loop
 μ-loop image n i₀ i = n - i
 
 pub broken-node-spec : {M : Type 1} → statement M
-unfolding records breaks
+unfolding records breaks ruleOn
 broken-node-spec =
     tie.close
     (tie.spec
