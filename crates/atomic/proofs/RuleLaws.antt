@@ -10,7 +10,7 @@ use Rattle.plexil.specs.declared.Place.{Place}
 use Rattle.plexil.specs.declared.Move.the-variants.{Go}
 use Rattle.plexil.specs.declared.Effect.the-variants.{Cleared}
 use Rattle.plexil.specs.Lists.{if_then_else_, every}
-use Rattle.plexil.specs.Places.{same, statusAt, markAt}
+use Rattle.plexil.specs.Places.{same, statusAt, markAt, Success, Failure, none, ByPost}
 use Rattle.plexil.proofs.ListLaws.{if-true, if-false, stands}
 use Rattle.plexil.proofs.TestLaws.{eq-yes, eq-no}
 use mathlib.Core.Bool.{Bool, true, false, not}
@@ -65,3 +65,14 @@ module _ (p : Image) (s : State) (i : ℕ) {own u : Status} {b : Bool} (a : own 
 pub same-place : {a b : ℕ} → a ≡ b → {o q : ℕ} → o ≡ q → {f g : ℕ} → f ≡ g → {m n : ℕ} → m ≡ n
     → _≡_ {A = Place} (record { status = a; outcome = o; failure = f; mark = m }) (record { status = b; outcome = q; failure = g; mark = n })
 same-place a o f m = λ t. record { status = a t; outcome = o t; failure = f t; mark = m t }
+
+-- ---- what Post says makes of outcome and failure
+judged-by : (b : Bool) {o f : ℕ} → o ≡ (if b then Success else Failure) → f ≡ (if b then none else ByPost)
+    → let r : ℕ × ℕ = if b then (Success, none) else (Failure, ByPost) in (o ≡ r .0) × (f ≡ r .1)
+unfolding if_then_else_
+judged-by true g h = (g, h)
+judged-by false g h = (g, h)
+
+pub judged-is : {a b : Bool} → a ≡ b → {o f : ℕ} → o ≡ (if b then Success else Failure) → f ≡ (if b then none else ByPost)
+    → let r : ℕ × ℕ = if a then (Success, none) else (Failure, ByPost) in (o ≡ r .0) × (f ≡ r .1)
+judged-is {a} {b} e g h = rw e (judged-by b g h)

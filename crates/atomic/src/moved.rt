@@ -9,14 +9,15 @@ use plexil::Place;
 use plexil::Status;
 ghost use mathlib.Core.Path.{_≡_};
 ghost use mathlib.Core.Bool.{not};
-ghost use mathlib.Core.List.{_∷_, []};
+ghost use mathlib.Core.List.{List, _∷_, []};
+ghost use Prim.Native.Nat.{ℕ};
 ghost use Rattle.plexil.specs.declared.State.{State};
 ghost use Rattle.plexil.specs.declared.Effect.{Effect};
 ghost use Rattle.plexil.specs.declared.Move.the-variants as move;
-ghost use Rattle.plexil.specs.Lists.{every};
-ghost use Rattle.plexil.specs.Places.{stateOf};
+ghost use Rattle.plexil.specs.Lists.{if_then_else_, every};
+ghost use Rattle.plexil.specs.Places.{stateOf, Success, Failure, none, ByPost};
 ghost use Rattle.plexil.specs.Records.{isAssignment};
-ghost use Rattle.plexil.specs.Micro.{isJudged, judges, markBy, placeBy, sentBy, stays};
+ghost use Rattle.plexil.specs.Micro.{isJudged, judges, markBy, endingBy, placeBy, sentBy, stays};
 
 // "The mark clears on leaving for IterationEnded"; "Executing (a command issues its word, mark clear)"
 fn mark_by(mk: &[u8], i: u16, a: Status) -> u8
@@ -31,7 +32,76 @@ fn mark_by(mk: &[u8], i: u16, a: Status) -> u8
     at(mk, i)
 }
 
-// Status a with effect e. "gives Success, failure none, if Post is True, else Failure, Post"
+// What an effect makes of a node's outcome and failure.
+struct Ending {
+    outcome: u8,
+    failure: u8,
+}
+
+// "gives Success, failure none, if Post is True, else Failure, Post"
+fn judged(post: bool) -> Ending
+    ensures { λ r. ⌜ (r .outcome ≡ (if post then Success else Failure)) × (r .failure ≡ (if post then none else ByPost)) ⌝ }
+{
+    if post {
+        return Ending {
+            outcome: 1,
+            failure: 0,
+        };
+    }
+    Ending {
+        outcome: 2,
+        failure: 2,
+    }
+}
+
+fn ending_by<'a>(
+    image: &'a [u8],
+    st: &'a [u8],
+    oc: &'a [u8],
+    fl: &'a [u8],
+    vt: &'a [u8],
+    vb: &'a [u64],
+    lt: &'a [u8],
+    lb: &'a [u64],
+    i: u16,
+    e: Effect,
+) -> Ending
+    ensures { λ r. ⌜ ((mark : List ℕ) → (r .outcome ≡ endingBy (now (image .entry)) (stateOf (now (st .entry)) (now (oc .entry)) (now (fl .entry)) mark (now (vt .entry)) (now (vb .entry)) (now (lt .entry)) (now (lb .entry))) i e .0) × (r .failure ≡ endingBy (now (image .entry)) (stateOf (now (st .entry)) (now (oc .entry)) (now (fl .entry)) mark (now (vt .entry)) (now (vb .entry)) (now (lt .entry)) (now (lb .entry))) i e .1)) ⌝ }
+{
+    match e {
+        Effect::Kept => Ending {
+            outcome: at(oc, i),
+            failure: at(fl, i),
+        },
+        Effect::Cleared => Ending {
+            outcome: 0,
+            failure: 0,
+        },
+        Effect::Skipped => Ending {
+            outcome: 3,
+            failure: at(fl, i),
+        },
+        Effect::Failed(f) => Ending {
+            outcome: 2,
+            failure: f,
+        },
+        Effect::Judged => judged(evaluate::holds(
+            image,
+            st,
+            oc,
+            fl,
+            vt,
+            vb,
+            lt,
+            lb,
+            i,
+            Condition::Post,
+            true,
+        )),
+    }
+}
+
+// Status a with effect e.
 fn gone<'a>(
     image: &'a [u8],
     st: &'a [u8],
@@ -48,50 +118,12 @@ fn gone<'a>(
 ) -> Place
     ensures { λ r. ⌜ r ≡ placeBy (now (image .entry)) (stateOf (now (st .entry)) (now (oc .entry)) (now (fl .entry)) (now (mk .entry)) (now (vt .entry)) (now (vb .entry)) (now (lt .entry)) (now (lb .entry))) i (move.Go a e) ⌝ }
 {
-    let status = status_code(a);
-    let mark = mark_by(mk, i, a);
-    match e {
-        Effect::Kept => Place {
-            status,
-            outcome: at(oc, i),
-            failure: at(fl, i),
-            mark,
-        },
-        Effect::Cleared => Place {
-            status,
-            outcome: 0,
-            failure: 0,
-            mark,
-        },
-        Effect::Skipped => Place {
-            status,
-            outcome: 3,
-            failure: at(fl, i),
-            mark,
-        },
-        Effect::Failed(f) => Place {
-            status,
-            outcome: 2,
-            failure: f,
-            mark,
-        },
-        Effect::Judged => {
-            if evaluate::holds(image, st, oc, fl, vt, vb, lt, lb, i, Condition::Post, true) {
-                Place {
-                    status,
-                    outcome: 1,
-                    failure: 0,
-                    mark,
-                }
-            } else {
-                Place {
-                    status,
-                    outcome: 2,
-                    failure: 2,
-                    mark,
-                }
-            }
-        }
+    let r = ending_by(image, st, oc, fl, vt, vb, lt, lb, i, e);
+    Place {
+        status: status_code(a),
+        outcome: r.outcome,
+        failure: r.failure,
+        mark: mark_by(mk, i, a),
     }
 }
 

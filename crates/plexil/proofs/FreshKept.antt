@@ -11,7 +11,7 @@ use Rattle.plexil.specs.Lists.{if_then_else_, every, some}
 use Rattle.plexil.specs.Values.{cell}
 use Rattle.plexil.specs.Image.{Image, nodeCount, varCount, lookCount, lookKind, parent}
 use Rattle.plexil.specs.Places.{statusOf, statusCode, same, statusAt, outcomeAt, failureAt, markAt, varCell, lookCell, initial, freshState}
-use Rattle.plexil.specs.Atomic.{parentStatus}
+use Rattle.plexil.specs.Atomic.{isClosing, parentStatus}
 use Rattle.plexil.specs.Form.{isIdle, allowed, ofType, goodMark, goodPlace, zeroFrom, unusedEmpty, goodState}
 use Rattle.plexil.specs.Promises.{IsAdmitted, FreshKept}
 use Rattle.plexil.proofs.ListLaws.{every-cons, every-nil, allBelow-all, renew-at}
@@ -27,12 +27,12 @@ zeros-at (suc n) (suc i) = zeros-at n i
 
 -- ---- the nodes
 under-fresh : (p : Image) (j : ℕ) → allowed (statusAt (freshState p) j) Inactive ≡ true
-unfolding freshState statusAt statusOf allowed isIdle same statusCode some if_then_else_
+unfolding freshState statusAt statusOf allowed isClosing isIdle same statusCode some if_then_else_
 under-fresh p zero = refl
 under-fresh p (suc j) = rw (zeros-at 255 j)
 
 fresh-place : (p : Image) (i : ℕ) → goodPlace p (freshState p) i ≡ true
-unfolding goodPlace goodMark freshState statusAt statusOf outcomeAt failureAt markAt parentStatus allowed ofType same statusCode every some if_then_else_
+unfolding goodPlace goodMark freshState statusAt statusOf outcomeAt failureAt markAt parentStatus allowed isClosing ofType same statusCode every some if_then_else_
 fresh-place p zero = refl
 fresh-place p (suc i) = rw (zeros-at 255 i, under-fresh p (parent p (suc i)), lt-ltb 0 (suc i) (omega arith))
 

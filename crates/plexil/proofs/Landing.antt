@@ -19,7 +19,7 @@ use Rattle.plexil.specs.Image.{Image, nodeType}
 use Rattle.plexil.specs.Places.{statusOf, statusCode, same, statusAt, markAt, ByInvariant, ByParent}
 use Rattle.plexil.specs.Records.{isList, isCommand, isAssignment}
 use Rattle.plexil.specs.Atomic.{parentStatus, failsBy, failureOr, atEnd, byStatus, moveBy, moveOf}
-use Rattle.plexil.specs.Micro.{isJudged, judges, writes, postHolds, resultBy, placeBy, place, entersWaiting}
+use Rattle.plexil.specs.Micro.{isJudged, judges, writes, postHolds, endingBy, placeBy, place, entersWaiting}
 use Rattle.plexil.proofs.ListLaws.{tested, not-both, if-either, every-stop, every-cons, every-one, every-false}
 use Rattle.plexil.proofs.TestLaws.{or-first}
 use Rattle.plexil.proofs.Statuses.{code-back, same-true}
@@ -68,7 +68,7 @@ module _ (p : Image) (s : State) (i : ℕ) where
   Told m = every (same (statusOf (placeBy p s i m .status)) IterationEnded ∷ ltb (placeBy p s i m .failure) ByInvariant ∷ []) ≡ judges m
 
   told-judged : Told (Go IterationEnded Judged)
-  unfolding Told placeBy resultBy judges isJudged same statusCode statusOf every if_then_else_
+  unfolding Told placeBy endingBy judges isJudged same statusCode statusOf every if_then_else_
   told-judged = ⊎-elim (λ e. rw e) (λ e. rw e) (tested (postHolds p s i))
 
   told-elsewhere : (a : Status) (e : Effect) → same a IterationEnded ≡ false → isJudged e ≡ false → Told (Go a e)
@@ -81,7 +81,7 @@ module _ (p : Image) (s : State) (i : ℕ) where
 
   -- Invariant and Parent are the failures from Invariant on
   told-failed : (f : ℕ) → ltb f ByInvariant ≡ false → Told (failsBy p i f)
-  unfolding Told failsBy placeBy resultBy judges isJudged same statusCode
+  unfolding Told failsBy placeBy endingBy judges isJudged same statusCode
   told-failed f e = if-either Told (isAssignment p i) _ _ (λ q. every-false _ 1 e) (λ q. told-elsewhere Failing (Failed f) refl refl)
 
   told-end : statusAt s i ≡ Executing → Told (atEnd p s i)

@@ -17,7 +17,7 @@ use Rattle.plexil.specs.Image.{Image, nodeCount, parent, what, owner}
 use Rattle.plexil.specs.Places.{statusCode, same, statusAt}
 use Rattle.plexil.specs.Records.{isAssignment}
 use Rattle.plexil.specs.Scope.{assigns, isAbove, inScope, goodReach}
-use Rattle.plexil.specs.Atomic.{parentStatus, moveOf}
+use Rattle.plexil.specs.Atomic.{isClosing, parentStatus, moveOf}
 use Rattle.plexil.specs.Micro.{isJudged, judges, writes, entersWaiting}
 use Rattle.plexil.specs.Form.{isIdle, allowed}
 use Rattle.plexil.specs.Promises.{IsAdmitted, IsKept, NotWrittenAndReset}
@@ -71,7 +71,7 @@ busyAbove : Status → Status → Bool
 busyAbove u c = some (not (allowed u c) ∷ some (not (isBusy c) ∷ isBusy u ∷ []) ∷ [])
 
 busy-parent : (u c : Status) → allowed u c ≡ true → isBusy c ≡ true → isBusy u ≡ true
-unfolding busyAbove allStatuses allowed isIdle isBusy same statusCode every some if_then_else_
+unfolding busyAbove allStatuses allowed isClosing isIdle isBusy same statusCode every some if_then_else_
 busy-parent u c a h = given _ _ (given _ _ (each-status (busyAbove u) (each-status (λ u. allStatuses (busyAbove u)) refl u) c) a) h
 
 busy-up : (p : Image) (s : State) → IsAdmitted p → IsKept p s → (n o i : ℕ) → i < nodeCount p → isAbove p n o i ≡ true → isBusy (statusAt s i) ≡ true → isBusy (statusAt s o) ≡ true

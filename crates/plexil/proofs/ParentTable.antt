@@ -13,7 +13,7 @@ use Rattle.plexil.specs.Lists.{if_then_else_, every, some}
 use Rattle.plexil.specs.Image.{Image, nodeType, nodeCount, parent}
 use Rattle.plexil.specs.Places.{statusCode, same, statusAt}
 use Rattle.plexil.specs.Records.{isList, isAssignment}
-use Rattle.plexil.specs.Atomic.{isOff, isResting, children, parentStatus, settled, byStatus, moveBy, moveOf}
+use Rattle.plexil.specs.Atomic.{isClosing, isOff, isResting, children, parentStatus, settled, byStatus, moveBy, moveOf}
 use Rattle.plexil.specs.Form.{isIdle, allowed}
 use Rattle.plexil.specs.Promises.{ParentTable}
 use Rattle.plexil.proofs.ListLaws.{tested, not-both, if-true, allBelow-at}
@@ -85,7 +85,7 @@ Child IterationEnded c d = d ≡ c
 Child Finished c d = d ≡ c
 
 child-becomes : (p : Image) (s : State) (i : ℕ) (u c : Status) → allowed u c ≡ true → Child u c (landing c (moveBy c u p s i))
-unfolding allowed isOff same statusCode some if_then_else_
+unfolding allowed isClosing isOff same statusCode some if_then_else_
 child-becomes p s i Inactive c a = gone p s i c Inactive refl refl
 child-becomes p s i Waiting c a = gone p s i c Waiting refl refl
 child-becomes p s i Executing c a = awake p s i c
@@ -96,7 +96,7 @@ child-becomes p s i Finished c a = still p s i c Finished refl refl a
 
 -- ---- the parent, of status u under one of status g
 pub off-idle : (g u : Status) → isOff g ≡ true → allowed g u ≡ true → isIdle u ≡ true
-unfolding isOff allowed same statusCode some if_then_else_
+unfolding isOff allowed isClosing same statusCode some if_then_else_
 off-idle Inactive u o a = a
 off-idle Waiting u o a = a
 off-idle Executing u o a = absurd (false≢true o)
@@ -107,7 +107,7 @@ off-idle Finished u o a = absurd (false≢true o)
 
 -- under an idle parent a node becomes idle
 idle-child : (u c d : Status) → isIdle u ≡ true → allowed u c ≡ true → Child u c d → isIdle d ≡ true
-unfolding isIdle allowed same statusCode some if_then_else_
+unfolding isIdle allowed isClosing same statusCode some if_then_else_
 idle-child Inactive c d h a k = rw k
 idle-child Waiting c d h a k = rw k
 idle-child Executing c d h a k = absurd (false≢true h)
@@ -118,7 +118,7 @@ idle-child Finished c d h a k = rw k a
 
 -- where the parent stays, its child is still allowed
 staying : (u c d : Status) → allowed u c ≡ true → Child u c d → allowed u d ≡ true
-unfolding allowed isIdle same statusCode some if_then_else_
+unfolding allowed isClosing isIdle same statusCode some if_then_else_
 staying Inactive c d a k = rw k
 staying Waiting c d a k = rw k
 staying Executing c d a k = refl
@@ -149,7 +149,7 @@ module _ (p : Image) (s : State) (j : ℕ) (list : isList p j ≡ true) where
 
   parent-becomes : (c d u g : Status) (m : Move) → Made p s j u g m → allowed g u ≡ true → allowed u c ≡ true
       → (children p s j isResting ≡ true → isResting c ≡ true) → Child u c d → allowed (landing u m) d ≡ true
-  unfolding landing allowed isIdle same statusCode some if_then_else_ isList isAssignment
+  unfolding landing allowed isClosing isIdle same statusCode some if_then_else_ isList isAssignment
   parent-becomes c d u g m (resets o) a b r k = idle-child u c d (off-idle g u o a) b k
   parent-becomes c d u g m wakes a b r k = rw k
   parent-becomes c d u g m skips a b r k = rw k
@@ -172,7 +172,7 @@ unfolding children
 child-rests p s i b h = given (eqb (parent p i) (parent p i)) _ (allBelow-at (nodeCount p) _ h i b) (eq-eqb (parent p i) (parent p i) refl)
 
 pub parent-table : ParentTable
-unfolding parentStatus allowed moveOf
+unfolding parentStatus allowed isClosing moveOf same statusCode some if_then_else_
 parent-table p s a k zero b = refl
 parent-table p s a k (suc i) b =
     let j = parent p (suc i) in

@@ -18,7 +18,7 @@ use Rattle.plexil.specs.Image.{Image, nodeType, nodeCount}
 use Rattle.plexil.specs.Places.{statusCode, same, statusAt, outcomeAt, failureAt, markAt}
 use Rattle.plexil.specs.Records.{isList, isCommand}
 use Rattle.plexil.specs.Atomic.{isOff, parentStatus, moveOf}
-use Rattle.plexil.specs.Micro.{loses, postHolds, resultBy, markBy, placeBy, place, outcomeAfter, failureAfter, step}
+use Rattle.plexil.specs.Micro.{loses, postHolds, endingBy, markBy, placeBy, place, outcomeAfter, failureAfter, step}
 use Rattle.plexil.specs.Form.{isIdle, allowed, ofType, isAwaiting, goodMark, goodPlace}
 use Rattle.plexil.specs.Promises.{IsAdmitted, IsKept}
 use Rattle.plexil.proofs.ListLaws.{if-either, every-at, every-false, every-cons, every-nil, some-stop, renew-at}
@@ -40,7 +40,7 @@ module _ (p : Image) (s : State) (i : ℕ) where
   status-small (Go a e) h = code-small a
 
   outcome-small : (m : Move) → ltb (outcomeAt s i) 4 ≡ true → ltb (placeBy p s i m .outcome) 4 ≡ true
-  unfolding placeBy resultBy
+  unfolding placeBy endingBy
   outcome-small Stay h = h
   outcome-small (Go a Kept) h = h
   outcome-small (Go a Cleared) h = refl
@@ -54,7 +54,7 @@ module _ (p : Image) (s : State) (i : ℕ) where
   reason-small c u a f (dropsOut o b t) = b
 
   failure-small : (c u : Status) (m : Move) → Made p s i c u m → ltb (failureAt s i) 6 ≡ true → ltb (placeBy p s i m .failure) 6 ≡ true
-  unfolding placeBy resultBy
+  unfolding placeBy endingBy
   failure-small c u Stay d h = h
   failure-small c u (Go a Kept) d h = h
   failure-small c u (Go a Cleared) d h = refl

@@ -9,27 +9,22 @@ use Rattle.plexil.specs.declared.State.{State}
 use Rattle.plexil.specs.declared.Card.{Card}
 use Rattle.plexil.specs.declared.Status.{Status}
 use Rattle.plexil.specs.declared.Status.the-variants.{Inactive, Waiting, Executing, Finishing, Failing, IterationEnded, Finished}
-use Rattle.plexil.specs.Lists.{every, some, allBelow, allIn}
+use Rattle.plexil.specs.Lists.{if_then_else_, every, some, allBelow, allIn}
 use Rattle.plexil.specs.Values.{goodBits}
 use Rattle.plexil.specs.Image.{Image, nodeCount, varCount, lookCount, varKind, lookKind}
 use Rattle.plexil.specs.Places.{same, statusAt, outcomeAt, failureAt, markAt, varCell, lookCell, Running, Quiet}
 use Rattle.plexil.specs.Records.{isList, isCommand, isAssignment}
-use Rattle.plexil.specs.Atomic.{parentStatus}
+use Rattle.plexil.specs.Atomic.{isClosing, parentStatus}
 use Rattle.plexil.specs.Micro.{quiet}
 
 -- "Inactive, Waiting or Finished"
 unfoldable pub isIdle : Status → Bool
 isIdle c = some (same c Inactive ∷ same c Waiting ∷ same c Finished ∷ [])
 
--- "Parent and child": c may stand under a parent of the first status
+-- "Under Inactive, Waiting, IterationEnded or Finished a child is Inactive, Waiting or Finished. Under Finishing or Failing it is anything but Inactive.
+-- Under Executing, anything."; u is the parent's status, c the child's
 unfoldable pub allowed : Status → Status → Bool
-allowed Inactive c = isIdle c
-allowed Waiting c = isIdle c
-allowed Executing c = true
-allowed Finishing c = not (same c Inactive)
-allowed Failing c = not (same c Inactive)
-allowed IterationEnded c = isIdle c
-allowed Finished c = isIdle c
+allowed u c = if same u Executing then true else if isClosing u then not (same c Inactive) else isIdle c
 
 -- "Finishing occurs in lists only, Failing never in assignments, node 0 is never Inactive"
 unfoldable pub ofType : Image → ℕ → Status → Bool

@@ -62,12 +62,12 @@ unfoldable pub postHolds : Image → State → ℕ → Bool
 postHolds p s i = holds p (readByPost p s i) i Post
 
 -- the outcome and the failure that an effect makes: "gives Success, failure none, if Post is True, else Failure, Post"
-unfoldable pub resultBy : Image → State → ℕ → Effect → ℕ × ℕ
-resultBy p s i Kept = (outcomeAt s i, failureAt s i)
-resultBy p s i Cleared = (None, none)
-resultBy p s i Skips = (Skipped, failureAt s i)
-resultBy p s i (Failed f) = (Failure, f)
-resultBy p s i Judged = if postHolds p s i then (Success, none) else (Failure, ByPost)
+unfoldable pub endingBy : Image → State → ℕ → Effect → ℕ × ℕ
+endingBy p s i Kept = (outcomeAt s i, failureAt s i)
+endingBy p s i Cleared = (None, none)
+endingBy p s i Skips = (Skipped, failureAt s i)
+endingBy p s i (Failed f) = (Failure, f)
+endingBy p s i Judged = if postHolds p s i then (Success, none) else (Failure, ByPost)
 
 -- "The mark clears on leaving for IterationEnded"; "Executing (a command issues its word, mark clear)"
 unfoldable pub markBy : State → ℕ → Status → ℕ
@@ -76,7 +76,7 @@ markBy s i a = if some (same a IterationEnded ∷ same a Executing ∷ []) then 
 -- what a move makes of node i's place, before the losers are settled; "What a rule does not name stays"
 unfoldable pub placeBy : Image → State → ℕ → Move → Place
 placeBy p s i Stay = record { status = getD (s .status) i 0; outcome = outcomeAt s i; failure = failureAt s i; mark = markAt s i }
-placeBy p s i (Go a e) = record { status = statusCode a; outcome = resultBy p s i e .0; failure = resultBy p s i e .1; mark = markBy s i a }
+placeBy p s i (Go a e) = record { status = statusCode a; outcome = endingBy p s i e .0; failure = endingBy p s i e .1; mark = markBy s i a }
 
 unfoldable pub place : Image → State → ℕ → Place
 place p s i = placeBy p s i (moveOf p s i)
@@ -150,5 +150,5 @@ quiet p s = allBelow (nodeCount p) (λ i. stays (moveOf p s i))
 
 -- opens every definition of this file
 unfoldable pub opened : Unit {0}
-unfolding isJudged judges writes written rival loses wins readByPost postHolds resultBy markBy placeBy place outcomeAfter failureAfter entersWaiting unwritten writtenBelow varAfter step sentBy sent wordOf wordsFrom words stays quiet
+unfolding isJudged judges writes written rival loses wins readByPost postHolds endingBy markBy placeBy place outcomeAfter failureAfter entersWaiting unwritten writtenBelow varAfter step sentBy sent wordOf wordsFrom words stays quiet
 opened = tt

@@ -106,16 +106,10 @@ initial p v = if eqb (varKnown p v) 1 then knownCell (varKind p v) (initialBits 
 
 -- "Fresh: node 0 Waiting, others Inactive, outcomes None, variables initial, lookups Unknown, marks clear, serial 0, Running"
 unfoldable pub freshState : Image → State
-freshState p = record {
-  status = 1 ∷ replicate 255 0;
-  outcome = replicate 256 0;
-  failure = replicate 256 0;
-  mark = replicate 256 0;
-  vartags = renew (varCount p) (λ v. initial p v .tag) (replicate 128 0);
-  varbits = renew (varCount p) (λ v. initial p v .bits) (replicate 128 0);
-  looktags = replicate 64 0;
-  lookbits = replicate 64 0;
-}
+freshState p =
+    stateOf (1 ∷ replicate 255 0) (replicate 256 0) (replicate 256 0) (replicate 256 0)
+    (renew (varCount p) (λ v. initial p v .tag) (replicate 128 0)) (renew (varCount p) (λ v. initial p v .bits) (replicate 128 0))
+    (replicate 64 0) (replicate 64 0)
 
 unfoldable pub freshCard : Card
 freshCard = record { serial = 0; phase = Running }

@@ -5,7 +5,7 @@ use mathlib.Core.Bool.{true, false}
 use mathlib.Core.List.{List}
 use native.Mathlib.Omega.{arith}
 use lib.ListN.{length}
-use lib.Dec.{ltb}
+use lib.Dec.{eqb, ltb}
 use borrow.Author.Tests.{ne-eqb}
 use Rattle.plexil.specs.declared.State.{State}
 use Rattle.plexil.specs.declared.Card.{Card}
@@ -52,14 +52,20 @@ unfolding freshReply startedBy
 fresh-refused p s c r i e = rw e
 
 -- ---- the taking of an event
-pub taken-refused : (r : Rule) (i : ℕ) (p : Image) (s : State) (c : Card) (b : List ℕ) → _≡_ {A = Taken} (record { answer = take.Refused r i; state = s; card = c }) (takenBy (take.Refused r i) p s c b)
-unfolding takenBy takeNumber numbered
-taken-refused r i p s c b = sym (if-false _ _ _ (ne-eqb (ruleNumber r) 0 (λ e. omega (arith, rule-range r .0))))
+-- rule numbers begin at 1
+pub not-accepted : (r : Rule) (i : ℕ) → eqb (takeNumber (take.Refused r i) .number) 0 ≡ false
+unfolding takeNumber numbered
+not-accepted r i = ne-eqb (ruleNumber r) 0 (λ e. omega (arith, rule-range r .0))
 
-pub taken-accepted : (p : Image) (s : State) (c : Card) (b : List ℕ) {x : State} {d : Card} → x ≡ entered p b (entryCount b) s → d ≡ cardAfter c
-    → _≡_ {A = Taken} (record { answer = take.Accepted; state = x; card = d }) (takenBy take.Accepted p s c b)
-unfolding takenBy takeNumber numbered if_then_else_
-taken-accepted p s c b e h = λ t. record { answer = take.Accepted; state = e t; card = h t }
+module _ (a : TakeAnswer) (p : Image) (s : State) (c : Card) (b : List ℕ) where
+  pub taken-accepted : eqb (takeNumber a .number) 0 ≡ true → {x : State} {d : Card} → x ≡ entered p b (entryCount b) s → d ≡ cardAfter c
+      → _≡_ {A = Taken} (record { answer = a; state = x; card = d }) (takenBy a p s c b)
+  unfolding takenBy
+  taken-accepted t e h = (λ k. record { answer = a; state = e k; card = h k }) ∙ sym (if-true _ _ _ t)
+
+  pub taken-refused : eqb (takeNumber a .number) 0 ≡ false → _≡_ {A = Taken} (record { answer = a; state = s; card = c }) (takenBy a p s c b)
+  unfolding takenBy
+  taken-refused t = sym (if-false _ _ _ t)
 
 pub take-admitted : (p : Image) (s : State) (c : Card) (b : List ℕ) → verdict p ≡ Admitted → {a : TakeAnswer} → a ≡ takeAnswer Admitted p s c b
     → {r : Taken} → r ≡ takenBy a p s c b → r ≡ takeReply p s c b
@@ -68,7 +74,7 @@ take-admitted p s c b e h g = g ∙ (ap (λ (x : TakeAnswer). takenBy x p s c b)
 
 pub take-refused : (p : Image) (s : State) (c : Card) (b : List ℕ) (r : Rule) (i : ℕ) → verdict p ≡ Refused r i → _≡_ {A = Taken} (record { answer = take.Refused r i; state = s; card = c }) (takeReply p s c b)
 unfolding takeReply takeAnswer
-take-refused p s c b r i e = rw e (taken-refused r i p s c b)
+take-refused p s c b r i e = rw e (taken-refused _ p s c b (not-accepted r i))
 
 -- ---- a run
 pub run-admitted-is : (p : Image) (s : State) (c : Card) (n : ℕ) (l : List ℕ) (k : ℕ) → verdict p ≡ Admitted → ranBy Admitted p s c n l k ≡ runReply p s c n l k

@@ -6,60 +6,42 @@ use plexil::TakeAnswer;
 use plexil::Taken;
 use plexil::Verdict;
 ghost use mathlib.Core.Path.{_≡_};
+ghost use lib.Dec.{eqb};
 ghost use Rattle.plexil.specs.declared.Verdict.the-variants.{Admitted};
-ghost use Rattle.plexil.specs.Replies.{takenBy, takeAnswer, takeReply};
+ghost use Rattle.plexil.specs.Replies.{takeNumber, takenBy, takeAnswer, takeReply};
 ghost use Rattle.plexil.specs.Promises.{IsAdmitted};
+
+fn is_accepted(a: TakeAnswer) -> bool
+    ensures { λ r. ⌜ r ≡ eqb (takeNumber a .number) 0 ⌝ }
+{
+    match a {
+        TakeAnswer::Refused(_, _) => false,
+        TakeAnswer::State => false,
+        TakeAnswer::Busy => false,
+        TakeAnswer::Shape => false,
+        TakeAnswer::Turn => false,
+        TakeAnswer::Entry(_) => false,
+        TakeAnswer::Twice(_) => false,
+        TakeAnswer::NotAwaited(_) => false,
+        TakeAnswer::Accepted => true,
+    }
+}
 
 // "An accepted event changes lookups and marks, moves the serial on and sets Running"
 fn taken(image: &[u8], state: State, card: Card, event: &[u8], a: TakeAnswer) -> Taken
     ensures { λ r. ⌜ r ≡ takenBy a (now (image .entry)) state card (now (event .entry)) ⌝ }
 {
-    match a {
-        TakeAnswer::Refused(rule, i) => Taken {
-            answer: TakeAnswer::Refused(rule, i),
-            state,
-            card,
-        },
-        TakeAnswer::State => Taken {
-            answer: TakeAnswer::State,
-            state,
-            card,
-        },
-        TakeAnswer::Busy => Taken {
-            answer: TakeAnswer::Busy,
-            state,
-            card,
-        },
-        TakeAnswer::Shape => Taken {
-            answer: TakeAnswer::Shape,
-            state,
-            card,
-        },
-        TakeAnswer::Turn => Taken {
-            answer: TakeAnswer::Turn,
-            state,
-            card,
-        },
-        TakeAnswer::Entry(k) => Taken {
-            answer: TakeAnswer::Entry(k),
-            state,
-            card,
-        },
-        TakeAnswer::Twice(k) => Taken {
-            answer: TakeAnswer::Twice(k),
-            state,
-            card,
-        },
-        TakeAnswer::NotAwaited(k) => Taken {
-            answer: TakeAnswer::NotAwaited(k),
-            state,
-            card,
-        },
-        TakeAnswer::Accepted => Taken {
-            answer: TakeAnswer::Accepted,
+    if is_accepted(a) {
+        return Taken {
+            answer: a,
             state: events::entered(image, state, event),
             card: events::card_after(card),
-        },
+        };
+    }
+    Taken {
+        answer: a,
+        state,
+        card,
     }
 }
 

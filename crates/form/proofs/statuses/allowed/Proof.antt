@@ -1,13 +1,16 @@
 -- A row of the table for each status of the parent.
 use mathlib.Core.Path.{ap}
 use mathlib.Core.Bool.{not}
+use Rattle.plexil.specs.Lists.{if_then_else_, some}
+use Rattle.plexil.specs.Places.{same, statusCode}
+use Rattle.plexil.specs.Atomic.{isClosing}
 use Rattle.plexil.specs.Form.{allowed}
 use borrow.Author.Needs.{needs}
 use Rattle.form.proofs.statuses.allowed.Statement.{statement}
 use Rattle.form.proofs.statuses.allowed.Tie as tie
 
 pub allowed-spec : {M : Type 1} → statement M
-unfolding allowed
+unfolding allowed isClosing same statusCode some if_then_else_
 allowed-spec =
     tie.close
     (tie.spec
