@@ -18,9 +18,6 @@ pub(crate) fn entry_count(event: &[u8]) -> u16
 pub(crate) fn good_shape(event: &[u8]) -> bool
     ensures { λ r. ⌜ r ≡ goodShape (now (event .entry)) ⌝ }
 {
-    if event.len() < 8 {
-        return false;
-    }
     let n = entry_count(event);
     if n > 128 {
         return false;

@@ -25,7 +25,7 @@ unfoldable pub entryCount : List ℕ → ℕ
 entryCount b = le16 b 4
 
 unfoldable pub goodShape : List ℕ → Bool
-goodShape b = every (leb 8 (length b) ∷ leb (entryCount b) 128 ∷ eqb (le16 b 6) 0 ∷ eqb (length b) (8 + 12 * entryCount b) ∷ [])
+goodShape b = every (leb (entryCount b) 128 ∷ eqb (le16 b 6) 0 ∷ eqb (length b) (8 + 12 * entryCount b) ∷ [])
 
 -- "form 8 (0 lookup value, 1 lookup Unknown, 2 command returned), spare 8, index 16, value 64"
 unfoldable pub entryAt : ℕ → ℕ

@@ -15,15 +15,13 @@ unfolding goodShape
 good-shape-spec =
     tie.close
     (tie.spec
-    (λ c. one-fails _ 0 (lt-leb _ _ (c .if1 .taken)))
     (λ _ _. tt)
-    (λ c. one-fails _ 1 (ap (λ (n : ℕ). leb n 128) (sym (c .before .entry-count .ensures)) ∙ lt-leb _ _ (c .if2 .taken)))
+    (λ c. one-fails _ 0 (ap (λ (n : ℕ). leb n 128) (sym (c .before .entry-count .ensures)) ∙ lt-leb _ _ (c .if1 .taken)))
     (λ _ _. tt)
-    (λ c. one-fails _ 2 (eq-no (c .before .le16 .ensures) refl (c .if3 .taken)))
+    (λ c. one-fails _ 1 (eq-no (c .before .le16 .ensures) refl (c .if2 .taken)))
     (λ c. search needs)
     (λ c. search needs)
     (λ c. search needs)
-    (λ c. and-then _ (le-leb _ _ (c .before .before .before .before .if1 .left))
-    (and-then _ (ap (λ (n : ℕ). leb n 128) (sym (c .before .before .before .entry-count .ensures)) ∙ le-leb _ _ (c .before .before .if2 .left))
-    (and-then _ (eq-yes (c .before .le16 .ensures) refl (c .if3 .left))
-    (and-last (long-as _ (c .before .before .before .entry-count .ensures)))))))
+    (λ c. and-then _ (ap (λ (n : ℕ). leb n 128) (sym (c .before .before .before .entry-count .ensures)) ∙ le-leb _ _ (c .before .before .if1 .left))
+    (and-then _ (eq-yes (c .before .le16 .ensures) refl (c .if2 .left))
+    (and-last (long-as _ (c .before .before .before .entry-count .ensures))))))
