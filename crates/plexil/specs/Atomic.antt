@@ -32,6 +32,7 @@ isClosing a = some (same a Finishing ∷ same a Failing ∷ [])
 unfoldable pub isResting : Status → Bool
 isResting a = some (same a Waiting ∷ same a Finished ∷ [])
 
+-- "Finished"
 unfoldable pub isFinished : Status → Bool
 isFinished a = same a Finished
 
@@ -54,12 +55,15 @@ defaultOf p s i End = if isList p i then children p s i isFinished else true
 defaultOf p s i Post = true
 defaultOf p s i Repeat = false
 
+-- a node's condition: what its expression answers, or its default
 unfoldable pub condition : Image → State → ℕ → Condition → Worked
 condition p s i c = if eqb (conditionField p i c) default then Flag (defaultOf p s i c) else valueOf p s (conditionField p i c)
 
+-- a condition is True
 unfoldable pub holds : Image → State → ℕ → Condition → Bool
 holds p s i c = isBool true (condition p s i c)
 
+-- a condition is False
 unfoldable pub fails : Image → State → ℕ → Condition → Bool
 fails p s i c = isBool false (condition p s i c)
 

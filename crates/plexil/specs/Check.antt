@@ -42,9 +42,11 @@ ruleOn Deep p = (exprCount p, λ i. not (shallow p i))
 ruleOn Kind p = (nodeCount p, λ i. not (goodKinds p i))
 ruleOn Reach p = (nodeCount p, λ i. not (goodReach p i))
 
+-- how many records rule r is about
 unfoldable pub records : Rule → Image → ℕ
 records r p = ruleOn r p .0
 
+-- record i breaks rule r
 unfoldable pub breaks : Rule → Image → ℕ → Bool
 breaks r p i = ruleOn r p .1 i
 
@@ -53,9 +55,11 @@ unfoldable pub verdictOn : List Rule → Image → Verdict
 verdictOn [] p = Admitted
 verdictOn (r ∷ rs) p = elim (first (records r p) (breaks r p)) [ at i ↦ Refused r i | nowhere ↦ verdictOn rs p ]
 
+-- the rules in the order of their numbers
 unfoldable pub rules : List Rule
 rules = Short ∷ Edition ∷ Count ∷ Layout ∷ Tree ∷ Node ∷ Variable ∷ Lookup ∷ Expression ∷ Deep ∷ Kind ∷ Reach ∷ []
 
+-- the verdict on an image
 unfoldable pub verdict : Image → Verdict
 verdict p = verdictOn rules p
 

@@ -12,12 +12,15 @@ use Rattle.plexil.specs.Values.{known, notOf, andOf, orOf, pairOf, eqOf,
 use Rattle.plexil.specs.Image.{Image, operator, resultKind, operandA, operandB, constant}
 use Rattle.plexil.specs.Places.{outcomeAt, failureAt, varCell, lookCell, valueIn}
 
+-- the operators 0 to 5, which have no operand entry
 pub data Leaf : Type 0 where
   constantOp variableOp lookupOp statusOp outcomeOp failureOp : Leaf
 
+-- the operators 7 to 14, which have two
 pub data Binary : Type 0 where
   andOp orOp eqOp ltOp leOp addOp subOp mulOp : Binary
 
+-- NOT has one; a number past 14 is no operator
 pub data Operator : Type 0 where
   leaf : Leaf → Operator
   notOp : Operator
@@ -32,6 +35,7 @@ operatorOf n =
     ∷ binary andOp ∷ binary orOp ∷ binary eqOp ∷ binary ltOp ∷ binary leOp ∷ binary addOp ∷ binary subOp ∷ binary mulOp ∷ [])
     n noOperator
 
+-- the operator of entry e
 unfoldable pub operatorAt : Image → ℕ → Operator
 operatorAt p e = operatorOf (operator p e)
 
@@ -44,6 +48,7 @@ leafOf statusOp p s e = Flag (eqb (getD (s .status) (operandA p e) 0) (operandB 
 leafOf outcomeOp p s e = Flag (eqb (outcomeAt s (operandA p e)) (operandB p e))
 leafOf failureOp p s e = Flag (eqb (failureAt s (operandA p e)) (operandB p e))
 
+-- what an operator answers on the values of its two operands
 unfoldable pub binaryOf : Binary → Worked → Worked → Worked
 binaryOf andOp x y = andOf x y
 binaryOf orOp x y = orOf x y

@@ -51,6 +51,7 @@ unfoldable pub goodCell : ℕ → ℕ → ℕ → Bool
 goodCell k zero w = eqb w 0
 goodCell k (suc t) w = every (eqb t k ∷ goodBits k w ∷ [])
 
+-- a cell that may stand at a place of kind k
 unfoldable pub hasKind : ℕ → Cell → Bool
 hasKind k c = goodCell k (c .tag) (c .bits)
 
@@ -58,6 +59,7 @@ hasKind k c = goodCell k (c .tag) (c .bits)
 unfoldable pub zeroFrom : ℕ → List ℕ → Bool
 zeroFrom n l = allIn (λ x. eqb x 0) (drop n l)
 
+-- in each of the eight arrays
 unfoldable pub unusedEmpty : Image → State → Bool
 unusedEmpty p s =
     every (zeroFrom (nodeCount p) (s .status) ∷ zeroFrom (nodeCount p) (s .outcome) ∷ zeroFrom (nodeCount p) (s .failure) ∷ zeroFrom (nodeCount p) (s .mark)
@@ -73,6 +75,7 @@ goodState p s =
 unfoldable pub goodCard : Image → State → Card → Bool
 goodCard p s c = some (eqb (c .phase) Running ∷ every (eqb (c .phase) Quiet ∷ quiet p s ∷ []) ∷ [])
 
+-- "30 State", passed
 unfoldable pub goodKept : Image → State → Card → Bool
 goodKept p s c = every (goodState p s ∷ goodCard p s c ∷ [])
 

@@ -39,6 +39,7 @@ pub data Found : Type 0 where
   at : ℕ → Found
   nowhere : Found
 
+-- the lowest of the n numbers from i on that passes
 unfoldable pub firstFrom : ℕ → ℕ → (ℕ → Bool) → Found
 firstFrom i zero f = nowhere
 firstFrom i (suc n) f = elim (f i) [ true ↦ at i | false ↦ firstFrom (suc i) n f ]

@@ -21,9 +21,11 @@ use Rattle.plexil.specs.Form.{isAwaiting}
 unfoldable pub eventSerial : List ℕ → ℕ
 eventSerial b = le32 b 0
 
+-- "count 16 (0..128)"
 unfoldable pub entryCount : List ℕ → ℕ
 entryCount b = le16 b 4
 
+-- "21 Shape: event length, count or spare wrong"
 unfoldable pub goodShape : List ℕ → Bool
 goodShape b = every (leb (entryCount b) 128 ∷ eqb (le16 b 6) 0 ∷ eqb (length b) (8 + 12 * entryCount b) ∷ [])
 
@@ -31,15 +33,19 @@ goodShape b = every (leb (entryCount b) 128 ∷ eqb (le16 b 6) 0 ∷ eqb (length
 unfoldable pub entryAt : ℕ → ℕ
 entryAt k = 8 + 12 * k
 
+-- "form 8"
 unfoldable pub form : List ℕ → ℕ → ℕ
 form b k = byteAt b (entryAt k)
 
+-- "spare 8"
 unfoldable pub entrySpare : List ℕ → ℕ → ℕ
 entrySpare b k = byteAt b (entryAt k + 1)
 
+-- "index 16"
 unfoldable pub index : List ℕ → ℕ → ℕ
 index b k = le16 b (entryAt k + 2)
 
+-- "value 64"
 unfoldable pub entryBits : List ℕ → ℕ → ℕ
 entryBits b k = le64 b (entryAt k + 4)
 
@@ -66,6 +72,7 @@ namedBefore b k = anyBelow k (namesSame b k)
 unfoldable pub awaited : State → ℕ → Bool
 awaited s i = every (isAwaiting (statusAt s i) ∷ eqb (markAt s i) 0 ∷ [])
 
+-- entry k is a return that is not awaited
 unfoldable pub notAwaited : State → List ℕ → ℕ → Bool
 notAwaited s b k = every (eqb (form b k) 2 ∷ not (awaited s (index b k)) ∷ [])
 
@@ -81,11 +88,13 @@ eventAnswer p s c b =
     (orElse Twice (first (entryCount b) (namedBefore b))
     (orElse NotAwaited (first (entryCount b) (notAwaited s b)) Accepted))
 
+-- lookup l holds c
 unfoldable pub withLookup : State → ℕ → Cell → State
 withLookup s l c =
     stateOf (s .status) (s .outcome) (s .failure) (s .mark) (s .vartags) (s .varbits)
     (set (s .looktags) l (c .tag)) (set (s .lookbits) l (c .bits))
 
+-- node i is marked as returned
 unfoldable pub withMark : State → ℕ → State
 withMark s i =
     stateOf (s .status) (s .outcome) (s .failure) (set (s .mark) i 1) (s .vartags) (s .varbits) (s .looktags) (s .lookbits)

@@ -31,6 +31,7 @@ isJudged Skips = false
 isJudged (Failed f) = false
 isJudged Judged = true
 
+-- a move with that effect
 unfoldable pub judges : Move → Bool
 judges Stay = false
 judges (Go a e) = isJudged e
@@ -51,6 +52,7 @@ rival p s i j = every (not (eqb j i) ∷ eqb (what p j) (what p i) ∷ leb (prio
 unfoldable pub loses : Image → State → ℕ → Bool
 loses p s i = every (writes p s i ∷ anyBelow (nodeCount p) (rival p s i) ∷ [])
 
+-- node i's value enters variable v
 unfoldable pub wins : Image → State → ℕ → ℕ → Bool
 wins p s v i = every (eqb (what p i) v ∷ writes p s i ∷ not (loses p s i) ∷ [])
 
@@ -58,6 +60,7 @@ wins p s v i = every (eqb (what p i) v ∷ writes p s i ∷ not (loses p s i) �
 unfoldable pub readByPost : Image → State → ℕ → State
 readByPost p s i = s
 
+-- "if Post is True"
 unfoldable pub postHolds : Image → State → ℕ → Bool
 postHolds p s i = holds p (readByPost p s i) i Post
 
@@ -78,6 +81,7 @@ unfoldable pub placeBy : Image → State → ℕ → Move → Place
 placeBy p s i Stay = record { status = getD (s .status) i 0; outcome = outcomeAt s i; failure = failureAt s i; mark = markAt s i }
 placeBy p s i (Go a e) = record { status = statusCode a; outcome = endingBy p s i e .0; failure = endingBy p s i e .1; mark = markBy s i a }
 
+-- what node i's own move makes of its place
 unfoldable pub place : Image → State → ℕ → Place
 place p s i = placeBy p s i (moveOf p s i)
 
@@ -85,6 +89,7 @@ place p s i = placeBy p s i (moveOf p s i)
 unfoldable pub outcomeAfter : Image → State → ℕ → ℕ
 outcomeAfter p s i = if loses p s i then Failure else place p s i .outcome
 
+-- the failure of node i after the step
 unfoldable pub failureAfter : Image → State → ℕ → ℕ
 failureAfter p s i = if loses p s i then WriteLost else place p s i .failure
 
@@ -93,6 +98,7 @@ unfoldable pub entersWaiting : Move → Bool
 entersWaiting Stay = false
 entersWaiting (Go a e) = same a Waiting
 
+-- variable v where no value enters it
 unfoldable pub unwritten : Image → State → ℕ → Cell
 unwritten p s v = if entersWaiting (moveOf p s (owner p v)) then initial p v else varCell s v
 
@@ -101,6 +107,7 @@ unfoldable pub writtenBelow : Image → State → ℕ → ℕ → Cell
 writtenBelow p s v zero = unwritten p s v
 writtenBelow p s v (suc n) = elim (wins p s v n) [ true ↦ written p s n | false ↦ writtenBelow p s v n ]
 
+-- variable v after the step
 unfoldable pub varAfter : Image → State → ℕ → Cell
 varAfter p s v = writtenBelow p s v (nodeCount p)
 
@@ -123,6 +130,7 @@ sentBy p s i Stay = 0
 sentBy p s i (Go a e) =
     if every (isCommand p i ∷ same a Executing ∷ []) then 1 else if every (isCommand p i ∷ same a Failing ∷ eqb (markAt s i) 0 ∷ []) then 2 else 0
 
+-- what node i sends
 unfoldable pub sent : Image → State → ℕ → ℕ
 sent p s i = sentBy p s i (moveOf p s i)
 
@@ -137,9 +145,11 @@ unfoldable pub wordsFrom : (ℕ → ℕ) → ℕ → ℕ → List ℕ
 wordsFrom f i zero = []
 wordsFrom f i (suc n) = wordOf i (f i) ++ wordsFrom f (suc i) n
 
+-- the words of one micro step
 unfoldable pub words : Image → State → List ℕ
 words p s = wordsFrom (sent p s) 0 (nodeCount p)
 
+-- no rule applies to the node
 unfoldable pub stays : Move → Bool
 stays Stay = true
 stays (Go a e) = false

@@ -40,6 +40,7 @@ carryNothing s =
     carryOf (s .status) (s .outcome) (s .failure) (s .mark)
     (replicate 128 0) (replicate 128 0) (replicate 128 0) (replicate 128 0) (replicate 128 0)
 
+-- "the next places so far", with node i's
 unfoldable pub putPlace : Carry → ℕ → Place → Carry
 putPlace c i r =
     carryOf (set (c .status) i (r .status)) (set (c .outcome) i (r .outcome)) (set (c .failure) i (r .failure)) (set (c .mark) i (r .mark))
@@ -59,18 +60,21 @@ unfoldable pub visit : Image → State → Carry → ℕ → Carry
 visit p s c i =
     if writes p s i then meet (putPlace c i (place p s i)) (what p i) (priority p i + 1) i (written p s i) else putPlace c i (place p s i)
 
+-- the visits of a list, one after the other
 unfoldable pub walk : Image → State → List ℕ → Carry → Carry
 walk p s [] c = c
 walk p s (i ∷ is) c = walk p s is (visit p s c i)
 
--- "After the last visit the writes and the losers are settled from what is carried": node i wrote, and does not lead alone
+-- "After the last visit the writes and the losers are settled from what is carried": node i wrote
 unfoldable pub wrote : Image → State → Carry → ℕ → Bool
 wrote p s c i =
     every (isAssignment p i ∷ same (statusAt s i) Executing ∷ same (statusOf (getD (c .status) i 0)) IterationEnded ∷ ltb (getD (c .failure) i 0) ByInvariant ∷ [])
 
+-- node i leads its variable, and is not tied
 unfoldable pub leads : Image → Carry → ℕ → Bool
 leads p c i = every (eqb (getD (c .node) (what p i) 0) i ∷ eqb (getD (c .tied) (what p i) 0) 0 ∷ [])
 
+-- node i wrote and does not lead alone
 unfoldable pub lost : Image → State → Carry → ℕ → Bool
 lost p s c i = every (wrote p s c i ∷ not (leads p c i) ∷ [])
 
@@ -78,11 +82,13 @@ lost p s c i = every (wrote p s c i ∷ not (leads p c i) ∷ [])
 unfoldable pub entered : State → Carry → ℕ → Bool
 entered s c i = every (not (same (statusAt s i) Waiting) ∷ same (statusOf (getD (c .status) i 0)) Waiting ∷ [])
 
+-- a sole leader's value enters; else the variable is reset, or stays
 unfoldable pub settledVar : Image → State → Carry → ℕ → Cell
 settledVar p s c v =
     if every (ltb 0 (getD (c .top) v 0) ∷ eqb (getD (c .tied) v 0) 0 ∷ []) then cell (getD (c .tags) v 0) (getD (c .bits) v 0)
     else if entered s c (owner p v) then initial p v else varCell s v
 
+-- the state after the settling
 unfoldable pub settle : Image → State → Carry → State
 settle p s c = record {
   status = c .status;

@@ -18,6 +18,7 @@ use Rattle.plexil.specs.Image.{Image, varCount, varKind, varKnown, initi
 unfoldable pub statusOf : ℕ → Status
 statusOf n = getD (Inactive ∷ Waiting ∷ Executing ∷ Finishing ∷ Failing ∷ IterationEnded ∷ Finished ∷ []) n Inactive
 
+-- the code of a status
 unfoldable pub statusCode : Status → ℕ
 statusCode Inactive = 0
 statusCode Waiting = 1
@@ -27,6 +28,7 @@ statusCode Failing = 4
 statusCode IterationEnded = 5
 statusCode Finished = 6
 
+-- a and b are one status
 unfoldable pub same : Status → Status → Bool
 same a b = eqb (statusCode a) (statusCode b)
 
@@ -34,12 +36,15 @@ same a b = eqb (statusCode a) (statusCode b)
 abbrev pub None : ℕ
 None = 0
 
+-- "1 Success"
 abbrev pub Success : ℕ
 Success = 1
 
+-- "2 Failure"
 abbrev pub Failure : ℕ
 Failure = 2
 
+-- "3 Skipped"
 abbrev pub Skipped : ℕ
 Skipped = 3
 
@@ -47,18 +52,23 @@ Skipped = 3
 abbrev pub none : ℕ
 none = 0
 
+-- "1 Pre"
 abbrev pub ByPre : ℕ
 ByPre = 1
 
+-- "2 Post"
 abbrev pub ByPost : ℕ
 ByPost = 2
 
+-- "3 Invariant"
 abbrev pub ByInvariant : ℕ
 ByInvariant = 3
 
+-- "4 Parent"
 abbrev pub ByParent : ℕ
 ByParent = 4
 
+-- "5 WriteLost"
 abbrev pub WriteLost : ℕ
 WriteLost = 5
 
@@ -66,6 +76,7 @@ WriteLost = 5
 abbrev pub Running : ℕ
 Running = 0
 
+-- the other phase
 abbrev pub Quiet : ℕ
 Quiet = 1
 
@@ -78,21 +89,27 @@ stateOf st oc fl mk vt vb lt lb =
 unfoldable pub statusAt : State → ℕ → Status
 statusAt s i = statusOf (getD (s .status) i 0)
 
+-- the outcome of node i
 unfoldable pub outcomeAt : State → ℕ → ℕ
 outcomeAt s i = getD (s .outcome) i 0
 
+-- its failure
 unfoldable pub failureAt : State → ℕ → ℕ
 failureAt s i = getD (s .failure) i 0
 
+-- "a returned mark"
 unfoldable pub markAt : State → ℕ → ℕ
 markAt s i = getD (s .mark) i 0
 
+-- the cell of variable v
 unfoldable pub varCell : State → ℕ → Cell
 varCell s v = cell (getD (s .vartags) v 0) (getD (s .varbits) v 0)
 
+-- the cell of lookup l
 unfoldable pub lookCell : State → ℕ → Cell
 lookCell s l = cell (getD (s .looktags) l 0) (getD (s .lookbits) l 0)
 
+-- the value that a cell keeps
 unfoldable pub valueIn : Cell → Worked
 valueIn c = decode (c .tag) (c .bits)
 
@@ -111,6 +128,7 @@ freshState p =
     (renew (varCount p) (λ v. initial p v .tag) (replicate 128 0)) (renew (varCount p) (λ v. initial p v .bits) (replicate 128 0))
     (replicate 64 0) (replicate 64 0)
 
+-- "serial 0, Running"
 unfoldable pub freshCard : Card
 freshCard = record { serial = 0; phase = Running }
 

@@ -9,6 +9,7 @@ use Rattle.plexil.specs.Lists.{put}
 use Rattle.plexil.specs.Image.{Image}
 use Rattle.plexil.specs.Micro.{step, words, quiet}
 
+-- "Quiet", "Spent", "NoRoom"
 pub data End : Type 0 where
   atQuiet spent noRoom : End
 
@@ -20,6 +21,7 @@ pub record Run : Type 0 where
   pub state : State
   pub list : List ℕ
 
+-- a run that ends here
 unfoldable pub stop : End → ℕ → ℕ → State → List ℕ → Run
 stop e done next s l = record { end = e; steps = done; next = next; state = s; list = l }
 

@@ -29,9 +29,11 @@ goodLayout p =
 unfoldable pub isList : Image → ℕ → Bool
 isList p i = eqb (nodeType p i) 0
 
+-- node i is a command
 unfoldable pub isCommand : Image → ℕ → Bool
 isCommand p i = eqb (nodeType p i) 1
 
+-- node i is an assignment
 unfoldable pub isAssignment : Image → ℕ → Bool
 isAssignment p i = eqb (nodeType p i) 2
 
@@ -40,6 +42,7 @@ unfoldable pub goodParent : Image → ℕ → Bool
 goodParent p zero = eqb (parent p zero) default
 goodParent p (suc i) = every (ltb (parent p (suc i)) (suc i) ∷ isList p (parent p (suc i)) ∷ [])
 
+-- each of the seven conditions passes
 unfoldable pub allConditions : (Condition → Bool) → Bool
 allConditions f = every (f Skip ∷ f Start ∷ f Pre ∷ f Inv ∷ f End ∷ f Post ∷ f Repeat ∷ [])
 
@@ -54,6 +57,7 @@ goodWhat p i =
     ∷ every (isCommand p i ∷ ltb (what p i) default ∷ eqb (valueField p i) default ∷ [])
     ∷ every (isAssignment p i ∷ ltb (what p i) (varCount p) ∷ ltb (valueField p i) (exprCount p) ∷ []) ∷ [])
 
+-- "6 Node: type, spare or field wrong"
 unfoldable pub goodNode : Image → ℕ → Bool
 goodNode p i = every (eqb (nodeSpare p i) 0 ∷ goodWhat p i ∷ allConditions (goodCondition p i) ∷ [])
 
@@ -83,6 +87,7 @@ reads p e n k = every (ltb (operandA p e) n ∷ eqb (operandB p e) 0 ∷ eqb (re
 unfoldable pub asks : Image → ℕ → ℕ → Bool
 asks p e n = every (ltb (operandA p e) (nodeCount p) ∷ ltb (operandB p e) n ∷ eqb (resultKind p e) 0 ∷ eqb (constant p e) 0 ∷ [])
 
+-- "0 constant", "1 variable a", "2 lookup a", "3 status of node a is b", "4 outcome", "5 failure"
 unfoldable pub goodLeaf : Leaf → Image → ℕ → Bool
 goodLeaf constantOp p e = every (eqb (operandA p e) 0 ∷ goodConstant (resultKind p e) (operandB p e) (constant p e) ∷ [])
 goodLeaf variableOp p e = reads p e (varCount p) (varKind p (operandA p e))
@@ -96,9 +101,11 @@ unfoldable pub takes : Image → ℕ → ℕ → ℕ → Bool
 takes p e k r =
     every (operand p e (operandA p e) k ∷ operand p e (operandB p e) k ∷ eqb (resultKind p e) r ∷ eqb (constant p e) 0 ∷ [])
 
+-- the kind of operand a
 unfoldable pub kindOfA : Image → ℕ → ℕ
 kindOfA p e = resultKind p (operandA p e)
 
+-- Int or Real
 unfoldable pub isNumber : ℕ → Bool
 isNumber k = not (eqb k 0)
 

@@ -31,13 +31,16 @@ pub record Numbered : Type 0 where
   pub number : ℕ
   pub record′ : ℕ
 
+-- number n, which names record i
 unfoldable pub numbered : ℕ → ℕ → Numbered
 numbered n i = record { number = n; record′ = i }
 
+-- 1 to 12
 unfoldable pub verdictNumber : Verdict → Numbered
 verdictNumber Admitted = numbered 0 0
 verdictNumber (Refused r i) = numbered (ruleNumber r) i
 
+-- 1 to 12, and 30 to 32
 unfoldable pub runNumber : RunAnswer → Numbered
 runNumber (ran.Refused r i) = numbered (ruleNumber r) i
 runNumber ran.State = numbered 30 0
@@ -46,6 +49,7 @@ runNumber ran.NoRoom = numbered 32 0
 runNumber ran.Spent = numbered 0 0
 runNumber ran.Quiet = numbered 0 0
 
+-- 1 to 12, 30, and 20 to 25
 unfoldable pub takeNumber : TakeAnswer → Numbered
 takeNumber (take.Refused r i) = numbered (ruleNumber r) i
 takeNumber take.State = numbered 30 0
@@ -61,13 +65,16 @@ takeNumber take.Accepted = numbered 0 0
 abbrev pub countsOf : Image → Counts
 countsOf p = record { nodes = nodeCount p; exprs = exprCount p; vars = varCount p; looks = lookCount p }
 
+-- a refusal counts nothing
 abbrev pub noCounts : Counts
 noCounts = record { nodes = 0; exprs = 0; vars = 0; looks = 0 }
 
+-- the counts of an admitted plan
 unfoldable pub checkedBy : Verdict → Image → Checked
 checkedBy Admitted p = record { verdict = Admitted; counts = countsOf p }
 checkedBy (Refused r i) p = record { verdict = Refused r i; counts = noCounts }
 
+-- the whole reply of the check
 unfoldable pub checkReply : Image → Checked
 checkReply p = checkedBy (verdict p) p
 
@@ -76,6 +83,7 @@ unfoldable pub startedBy : Verdict → Image → State → Card → Started
 startedBy Admitted p s c = record { verdict = Admitted; state = freshState p; card = freshCard }
 startedBy (Refused r i) p s c = record { verdict = Refused r i; state = s; card = c }
 
+-- the whole reply of a fresh start
 unfoldable pub freshReply : Image → State → Card → Started
 freshReply p s c = startedBy (verdict p) p s c
 
@@ -100,6 +108,7 @@ pub record RunReply : Type 0 where
 unfoldable pub notRun : RunAnswer → State → Card → List ℕ → ℕ → RunReply
 notRun a s c l start = record { ran = record { answer = a; steps = 0; next = start; state = s; card = c }; list = l }
 
+-- "It answers the count of steps done and the next free place in the list"
 unfoldable pub hasRun : Card → Run → RunReply
 hasRun c r = record {
   ran = record {
@@ -112,11 +121,13 @@ hasRun c r = record {
   list = r .list;
 }
 
+-- "Every call checks its image first, then 30, then 31"
 unfoldable pub ranBy : Verdict → Image → State → Card → ℕ → List ℕ → ℕ → RunReply
 ranBy (Refused r i) p s c budget l start = notRun (ran.Refused r i) s c l start
 ranBy Admitted p s c budget l start =
     if goodKept p s c then (if ltb (length l) start then notRun ran.Place s c l start else hasRun c (run p s budget l start)) else notRun ran.State s c l start
 
+-- the whole reply of a run, and the list at exit
 unfoldable pub runReply : Image → State → Card → ℕ → List ℕ → ℕ → RunReply
 runReply p s c budget l start = ranBy (verdict p) p s c budget l start
 
@@ -126,10 +137,12 @@ unfoldable pub takenBy : TakeAnswer → Image → State → Card → List ℕ �
 takenBy a p s c b =
     if eqb (takeNumber a .number) 0 then record { answer = a; state = entered p b (entryCount b) s; card = cardAfter c } else record { answer = a; state = s; card = c }
 
+-- "Every call checks its image first, then 30, then 20 to 25 in order"
 unfoldable pub takeAnswer : Verdict → Image → State → Card → List ℕ → TakeAnswer
 takeAnswer (Refused r i) p s c b = take.Refused r i
 takeAnswer Admitted p s c b = if goodKept p s c then eventAnswer p s c b else take.State
 
+-- the whole reply of the taking of an event
 unfoldable pub takeReply : Image → State → Card → List ℕ → Taken
 takeReply p s c b = takenBy (takeAnswer (verdict p) p s c b) p s c b
 

@@ -25,10 +25,11 @@ depthWithin p (suc d) e = operandsPass (operatorAt p e) p e (λ x. depthWithin p
 unfoldable pub shallow : Image → ℕ → Bool
 shallow p e = depthWithin p 12 e
 
--- each condition of node i that is given passes, and so does an assignment's value
+-- each condition of node i that is given passes
 unfoldable pub givenPass : Image → ℕ → (ℕ → Bool) → Bool
 givenPass p i f = allConditions (λ c. some (eqb (conditionField p i c) default ∷ f (conditionField p i c) ∷ []))
 
+-- an assignment passes b; no other node assigns
 unfoldable pub assigns : Image → ℕ → Bool → Bool
 assigns p i b = some (not (isAssignment p i) ∷ b ∷ [])
 

@@ -52,6 +52,7 @@ unfoldable pub decode : ℕ → ℕ → Worked
 decode zero w = Unknown
 decode (suc k) w = known k w
 
+-- a tag and its bits, as a value is kept
 abbrev pub cell : ℕ → ℕ → Cell
 cell t w = record { tag = t; bits = w }
 
@@ -91,9 +92,11 @@ junction d (Flag a) (Real x) = Clash
 junction d (Int z) y = Clash
 junction d (Real x) y = Clash
 
+-- "7 AND"
 unfoldable pub andOf : Worked → Worked → Worked
 andOf = junction false
 
+-- "8 OR"
 unfoldable pub orOf : Worked → Worked → Worked
 orOf = junction true
 
@@ -121,6 +124,7 @@ pairOf (Real a) (Flag b) = two.Clash
 pairOf (Real a) (Int b) = two.Clash
 pairOf (Real a) (Real b) = two.Reals a b
 
+-- two Ints are equal
 unfoldable pub eqZ : ℤ → ℤ → Bool
 eqZ (pos a) (pos b) = eqb a b
 eqZ (pos a) (negsuc b) = false
@@ -145,9 +149,11 @@ numeric i r (two.Bools a b) = Clash
 numeric i r (two.Ints a b) = i a b
 numeric i r (two.Reals a b) = r a b
 
+-- "10 LT"
 unfoldable pub ltOf : Pair → Worked
 ltOf = numeric (λ a b. Flag (ltZ a b)) (λ a b. Flag (Ieee.lt a b))
 
+-- "11 LE"
 unfoldable pub leOf : Pair → Worked
 leOf = numeric (λ a b. Flag (leZ a b)) (λ a b. Flag (Ieee.le a b))
 
@@ -155,9 +161,11 @@ leOf = numeric (λ a b. Flag (leZ a b)) (λ a b. Flag (Ieee.le a b))
 unfoldable pub addOf : Pair → Worked
 addOf = numeric (λ a b. intIn (a +ℤ b)) (λ a b. realIn (Ieee.add binary64 a b))
 
+-- "13 SUB"
 unfoldable pub subOf : Pair → Worked
 subOf = numeric (λ a b. intIn (a -ℤ b)) (λ a b. realIn (Ieee.sub binary64 a b))
 
+-- "14 MUL"
 unfoldable pub mulOf : Pair → Worked
 mulOf = numeric (λ a b. intIn (a *ℤ b)) (λ a b. realIn (Ieee.mul binary64 a b))
 
