@@ -8,7 +8,7 @@ ghost use lib.Dec.{eqb};
 ghost use Rattle.plexil.specs.declared.Rule.the-variants as rule;
 ghost use Rattle.plexil.specs.Lists.{some};
 ghost use Rattle.plexil.specs.Image.{default, conditionField, valueField, what, resultKind, varKind};
-ghost use Rattle.plexil.specs.Scope.{givenPass, assigns, goodKinds};
+ghost use Rattle.plexil.specs.Scope.{givenPass, ifAssignment, goodKinds};
 ghost use Rattle.records.specs.Broken.{foundOf, lowestBroken};
 
 fn bool_condition(image: &[u8], i: u16, c: Condition) -> bool
@@ -36,7 +36,7 @@ fn bool_conditions(image: &[u8], i: u16) -> bool
 }
 
 fn good_value(image: &[u8], i: u16) -> bool
-    ensures { λ r. ⌜ r ≡ assigns (now (image .entry)) i (eqb (resultKind (now (image .entry)) (valueField (now (image .entry)) i)) (varKind (now (image .entry)) (what (now (image .entry)) i))) ⌝ }
+    ensures { λ r. ⌜ r ≡ ifAssignment (now (image .entry)) i (eqb (resultKind (now (image .entry)) (valueField (now (image .entry)) i)) (varKind (now (image .entry)) (what (now (image .entry)) i))) ⌝ }
 {
     if image::node_type(image, i) != 2 {
         return true;

@@ -8,7 +8,7 @@ ghost use lib.Dec.{eqb};
 ghost use Rattle.plexil.specs.declared.Rule.the-variants as rule;
 ghost use Rattle.plexil.specs.Lists.{every, some};
 ghost use Rattle.plexil.specs.Image.{default, conditionField, valueField, what};
-ghost use Rattle.plexil.specs.Scope.{isAbove, inScope, treeInScope, givenPass, assigns, goodReach};
+ghost use Rattle.plexil.specs.Scope.{isAbove, inScope, treeInScope, givenPass, ifAssignment, goodReach};
 ghost use Rattle.records.specs.Broken.{foundOf, lowestBroken};
 
 // The owner is node i or above it; the walk goes up at most `left` nodes.
@@ -90,7 +90,7 @@ fn conditions_in_scope(image: &[u8], i: u16) -> bool
 }
 
 fn assignment_in_scope(image: &[u8], i: u16) -> bool
-    ensures { λ r. ⌜ r ≡ assigns (now (image .entry)) i (every (treeInScope (now (image .entry)) i 12 (valueField (now (image .entry)) i) ∷ inScope (now (image .entry)) i (what (now (image .entry)) i) ∷ [])) ⌝ }
+    ensures { λ r. ⌜ r ≡ ifAssignment (now (image .entry)) i (every (treeInScope (now (image .entry)) i 12 (valueField (now (image .entry)) i) ∷ inScope (now (image .entry)) i (what (now (image .entry)) i) ∷ [])) ⌝ }
 {
     if image::node_type(image, i) != 2 {
         return true;

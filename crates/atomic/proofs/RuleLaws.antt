@@ -1,4 +1,4 @@
--- Laws that the rules' proofs share: a condition by what evaluation answers, a mark by its array, and the first rule that applies.
+-- Laws that the rules' proofs share: a condition by what evaluation answers, a mark by its array, the first rule that applies, and a place by its numbers.
 use Prim.Native.Nat.{ℕ}
 use mathlib.Core.Path.{_≡_, refl, sym, ap, _∙_}
 use mathlib.Core.List.{List, [], _∷_}
@@ -10,26 +10,26 @@ use Rattle.plexil.specs.declared.Place.{Place}
 use Rattle.plexil.specs.declared.Move.the-variants.{Go}
 use Rattle.plexil.specs.declared.Effect.the-variants.{Cleared}
 use Rattle.plexil.specs.Lists.{if_then_else_, every}
-use Rattle.plexil.specs.Places.{same, statusAt, markAt, Success, Failure, none, ByPost}
+use Rattle.plexil.specs.Places.{same, statusAt, markAt}
 use Rattle.plexil.proofs.ListLaws.{if-true, if-false, stands}
 use Rattle.plexil.proofs.TestLaws.{eq-yes, eq-no}
 use mathlib.Core.Bool.{Bool, true, false, not}
 use lib.Dec.{eqb}
 use Rattle.plexil.specs.declared.State.{State}
 use Rattle.plexil.specs.declared.Condition.{Condition}
-use Rattle.plexil.specs.Values.{isBool}
+use Rattle.plexil.specs.Values.{says}
 use Rattle.plexil.specs.Image.{Image}
 use Rattle.plexil.specs.Atomic.{isOff, parentStatus, defaultOf, holds, fails, byStatus, moveBy, moveOf}
 use Rattle.evaluate.specs.Condition.{conditionOr}
 use Rattle.evaluate.proofs.Laws.{condition-or}
 
-pub holds-is : (p : Image) (s : State) (i : ℕ) (c : Condition) (d : Bool) {b : Bool} → d ≡ defaultOf p s i c → b ≡ isBool true (conditionOr p s i c d) → holds p s i c ≡ b
+pub holds-is : (p : Image) (s : State) (i : ℕ) (c : Condition) (d : Bool) {b : Bool} → d ≡ defaultOf p s i c → b ≡ says true (conditionOr p s i c d) → holds p s i c ≡ b
 unfolding holds
-holds-is p s i c d e h = ap (isBool true) (condition-or p s i c ∙ ap (conditionOr p s i c) (sym e)) ∙ sym h
+holds-is p s i c d e h = ap (says true) (condition-or p s i c ∙ ap (conditionOr p s i c) (sym e)) ∙ sym h
 
-pub fails-is : (p : Image) (s : State) (i : ℕ) (c : Condition) (d : Bool) {b : Bool} → d ≡ defaultOf p s i c → b ≡ isBool false (conditionOr p s i c d) → fails p s i c ≡ b
+pub fails-is : (p : Image) (s : State) (i : ℕ) (c : Condition) (d : Bool) {b : Bool} → d ≡ defaultOf p s i c → b ≡ says false (conditionOr p s i c d) → fails p s i c ≡ b
 unfolding fails
-fails-is p s i c d e h = ap (isBool false) (condition-or p s i c ∙ ap (conditionOr p s i c) (sym e)) ∙ sym h
+fails-is p s i c d e h = ap (says false) (condition-or p s i c ∙ ap (conditionOr p s i c) (sym e)) ∙ sym h
 
 pub inv-default : (p : Image) (s : State) (i : ℕ) → true ≡ defaultOf p s i Inv
 unfolding defaultOf
@@ -65,14 +65,3 @@ module _ (p : Image) (s : State) (i : ℕ) {own u : Status} {b : Bool} (a : own 
 pub same-place : {a b : ℕ} → a ≡ b → {o q : ℕ} → o ≡ q → {f g : ℕ} → f ≡ g → {m n : ℕ} → m ≡ n
     → _≡_ {A = Place} (record { status = a; outcome = o; failure = f; mark = m }) (record { status = b; outcome = q; failure = g; mark = n })
 same-place a o f m = λ t. record { status = a t; outcome = o t; failure = f t; mark = m t }
-
--- ---- what Post says makes of outcome and failure
-judged-by : (b : Bool) {o f : ℕ} → o ≡ (if b then Success else Failure) → f ≡ (if b then none else ByPost)
-    → let r : ℕ × ℕ = if b then (Success, none) else (Failure, ByPost) in (o ≡ r .0) × (f ≡ r .1)
-unfolding if_then_else_
-judged-by true g h = (g, h)
-judged-by false g h = (g, h)
-
-pub judged-is : {a b : Bool} → a ≡ b → {o f : ℕ} → o ≡ (if b then Success else Failure) → f ≡ (if b then none else ByPost)
-    → let r : ℕ × ℕ = if a then (Success, none) else (Failure, ByPost) in (o ≡ r .0) × (f ≡ r .1)
-judged-is {a} {b} e g h = rw e (judged-by b g h)

@@ -2,7 +2,6 @@
 use super::statuses::is_finished;
 use super::statuses::is_resting;
 use places::status_at;
-ghost use mathlib.Core.Path.{_≡_};
 ghost use Rattle.atomic.specs.Children.{Answered};
 
 pub struct ChildTests {

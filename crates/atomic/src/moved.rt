@@ -13,11 +13,13 @@ ghost use mathlib.Core.List.{List, _∷_, []};
 ghost use Prim.Native.Nat.{ℕ};
 ghost use Rattle.plexil.specs.declared.State.{State};
 ghost use Rattle.plexil.specs.declared.Effect.{Effect};
+ghost use Rattle.plexil.specs.declared.Effect.the-variants as effect;
 ghost use Rattle.plexil.specs.declared.Move.the-variants as move;
-ghost use Rattle.plexil.specs.Lists.{if_then_else_, every};
-ghost use Rattle.plexil.specs.Places.{stateOf, Success, Failure, none, ByPost};
+ghost use Rattle.plexil.specs.Lists.{every};
+ghost use Rattle.plexil.specs.Places.{stateOf};
 ghost use Rattle.plexil.specs.Records.{isAssignment};
 ghost use Rattle.plexil.specs.Micro.{isJudged, judges, markBy, endingBy, placeBy, sentBy, stays};
+ghost use Rattle.atomic.specs.Ending.{endingOf};
 
 // "The mark clears on leaving for IterationEnded"; "Executing (a command issues its word, mark clear)"
 fn mark_by(mk: &[u8], i: u16, a: Status) -> u8
@@ -32,17 +34,27 @@ fn mark_by(mk: &[u8], i: u16, a: Status) -> u8
     at(mk, i)
 }
 
-// What an effect makes of a node's outcome and failure.
-struct Ending {
-    outcome: u8,
-    failure: u8,
+// A node's outcome and failure.
+pub struct Ending {
+    pub outcome: u8,
+    pub failure: u8,
 }
 
 // "gives Success, failure none, if Post is True, else Failure, Post"
-fn judged(post: bool) -> Ending
-    ensures { λ r. ⌜ (r .outcome ≡ (if post then Success else Failure)) × (r .failure ≡ (if post then none else ByPost)) ⌝ }
+fn judged<'a>(
+    image: &'a [u8],
+    st: &'a [u8],
+    oc: &'a [u8],
+    fl: &'a [u8],
+    vt: &'a [u8],
+    vb: &'a [u64],
+    lt: &'a [u8],
+    lb: &'a [u64],
+    i: u16,
+) -> Ending
+    ensures { λ r. ⌜ ((mark : List ℕ) → r ≡ endingOf (endingBy (now (image .entry)) (stateOf (now (st .entry)) (now (oc .entry)) (now (fl .entry)) mark (now (vt .entry)) (now (vb .entry)) (now (lt .entry)) (now (lb .entry))) i effect.Judged)) ⌝ }
 {
-    if post {
+    if evaluate::holds(image, st, oc, fl, vt, vb, lt, lb, i, Condition::Post, true) {
         return Ending {
             outcome: 1,
             failure: 0,
@@ -54,6 +66,7 @@ fn judged(post: bool) -> Ending
     }
 }
 
+// What an effect makes of them.
 fn ending_by<'a>(
     image: &'a [u8],
     st: &'a [u8],
@@ -66,7 +79,7 @@ fn ending_by<'a>(
     i: u16,
     e: Effect,
 ) -> Ending
-    ensures { λ r. ⌜ ((mark : List ℕ) → (r .outcome ≡ endingBy (now (image .entry)) (stateOf (now (st .entry)) (now (oc .entry)) (now (fl .entry)) mark (now (vt .entry)) (now (vb .entry)) (now (lt .entry)) (now (lb .entry))) i e .0) × (r .failure ≡ endingBy (now (image .entry)) (stateOf (now (st .entry)) (now (oc .entry)) (now (fl .entry)) mark (now (vt .entry)) (now (vb .entry)) (now (lt .entry)) (now (lb .entry))) i e .1)) ⌝ }
+    ensures { λ r. ⌜ ((mark : List ℕ) → r ≡ endingOf (endingBy (now (image .entry)) (stateOf (now (st .entry)) (now (oc .entry)) (now (fl .entry)) mark (now (vt .entry)) (now (vb .entry)) (now (lt .entry)) (now (lb .entry))) i e)) ⌝ }
 {
     match e {
         Effect::Kept => Ending {
@@ -85,19 +98,7 @@ fn ending_by<'a>(
             outcome: 2,
             failure: f,
         },
-        Effect::Judged => judged(evaluate::holds(
-            image,
-            st,
-            oc,
-            fl,
-            vt,
-            vb,
-            lt,
-            lb,
-            i,
-            Condition::Post,
-            true,
-        )),
+        Effect::Judged => judged(image, st, oc, fl, vt, vb, lt, lb, i),
     }
 }
 

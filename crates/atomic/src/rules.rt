@@ -20,7 +20,7 @@ ghost use Rattle.plexil.specs.Lists.{every};
 ghost use Rattle.plexil.specs.Places.{stateOf, same};
 ghost use Rattle.plexil.specs.Atomic.{children, isFinished, isResting, isOff, fromWaiting, failsBy, atEnd, settled, fromEnded, defaultOf, byStatus, moveOf};
 
-// "Skip True, then Finished, Skipped. Else Start True: Pre True, then Executing; otherwise IterationEnded, Failure, Pre"
+// "Skip True, then Finished, Skipped. Else Start True: Pre True, then Executing ..; otherwise IterationEnded, Failure, Pre"
 fn from_waiting<'a>(
     image: &'a [u8],
     st: &'a [u8],
@@ -46,7 +46,7 @@ fn from_waiting<'a>(
     Move::Stay
 }
 
-// "A list or command goes to Failing; an assignment goes to IterationEnded without writing"
+// "A list or command goes to Failing ..; an assignment goes to IterationEnded without writing"
 fn fails_by(image: &[u8], i: u16, failure: u8) -> Move
     ensures { λ r. ⌜ r ≡ failsBy (now (image .entry)) i failure ⌝ }
 {

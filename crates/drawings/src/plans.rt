@@ -25,7 +25,7 @@ pub fn swap() -> [u8; 156] {
     image
 }
 
-// "In K1 the children write x := 10 (priority a), x := 20 (b)"
+// "In K1 the children write x := 10 (priority 5), x := 20 (3)", with the priorities a and b
 pub fn contest(a: u32, b: u32) -> [u8; 156] {
     let mut image = [0u8; 156];
     pair(&mut image, 0, 0, 1);

@@ -5,7 +5,7 @@ ghost use mathlib.Core.Path.{_≡_};
 ghost use mathlib.Core.Bool.{true, false};
 ghost use mathlib.Core.List.{List};
 ghost use Prim.Native.Nat.{ℕ};
-ghost use Rattle.plexil.specs.Values.{isBool};
+ghost use Rattle.plexil.specs.Values.{says};
 ghost use Rattle.plexil.specs.Places.{stateOf};
 ghost use Rattle.evaluate.specs.Condition.{conditionOr};
 
@@ -55,7 +55,7 @@ pub fn holds<'a>(
     c: plexil::Condition,
     normal: bool,
 ) -> bool
-    ensures { λ r. ⌜ ((mark : List ℕ) → r ≡ isBool true (conditionOr (now (image .entry)) (stateOf (now (status .entry)) (now (outcome .entry)) (now (failure .entry)) mark (now (vartags .entry)) (now (varbits .entry)) (now (looktags .entry)) (now (lookbits .entry))) i c normal)) ⌝ }
+    ensures { λ r. ⌜ ((mark : List ℕ) → r ≡ says true (conditionOr (now (image .entry)) (stateOf (now (status .entry)) (now (outcome .entry)) (now (failure .entry)) mark (now (vartags .entry)) (now (varbits .entry)) (now (looktags .entry)) (now (lookbits .entry))) i c normal)) ⌝ }
 {
     let v = condition(
         image,
@@ -70,7 +70,7 @@ pub fn holds<'a>(
         c,
         normal,
     );
-    values::is_bool(true, v)
+    values::says(true, v)
 }
 
 pub fn fails<'a>(
@@ -86,7 +86,7 @@ pub fn fails<'a>(
     c: plexil::Condition,
     normal: bool,
 ) -> bool
-    ensures { λ r. ⌜ ((mark : List ℕ) → r ≡ isBool false (conditionOr (now (image .entry)) (stateOf (now (status .entry)) (now (outcome .entry)) (now (failure .entry)) mark (now (vartags .entry)) (now (varbits .entry)) (now (looktags .entry)) (now (lookbits .entry))) i c normal)) ⌝ }
+    ensures { λ r. ⌜ ((mark : List ℕ) → r ≡ says false (conditionOr (now (image .entry)) (stateOf (now (status .entry)) (now (outcome .entry)) (now (failure .entry)) mark (now (vartags .entry)) (now (varbits .entry)) (now (looktags .entry)) (now (lookbits .entry))) i c normal)) ⌝ }
 {
     let v = condition(
         image,
@@ -101,5 +101,5 @@ pub fn fails<'a>(
         c,
         normal,
     );
-    values::is_bool(false, v)
+    values::says(false, v)
 }

@@ -11,7 +11,7 @@ ghost use Rattle.plexil.specs.Lists.{first};
 ghost use Rattle.plexil.specs.Macro.{entryCount, goodForm, goodEntry};
 ghost use Rattle.events.specs.Found.{foundOf};
 
-// "0 lookup value", "value 64 (as a constant)"
+// "0 lookup value", "value 64 (as a constant; ..)"
 fn good_value(image: &[u8], event: &[u8], k: u16) -> bool
     ensures { λ r. ⌜ r ≡ goodForm (now (image .entry)) (now (event .entry)) k 0 ⌝ }
 {

@@ -17,7 +17,7 @@ fn is_idle(c: Status) -> bool
     same(c, Status::Finished)
 }
 
-// "a node Executing or Failing"
+// Executing or Failing: a node that may await a return
 pub fn is_awaiting(c: Status) -> bool
     ensures { λ r. ⌜ r ≡ isAwaiting c ⌝ }
 {

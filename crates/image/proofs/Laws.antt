@@ -50,10 +50,6 @@ module _ (p : List ℕ) (known : (k : ℕ) → Fits w8 (getD p k 0)) where
   unfolding le32
   le32-below k = omega (arith, le16-below k, le16-below (k + 2))
 
-  pub le64-below : (k : ℕ) → le64 p k < 18446744073709551616
-  unfolding le64
-  le64-below k = omega (arith, le32-below k, le32-below (k + 4))
-
   pub header-below : (k : ℕ) → header p k < 65536
   unfolding header
   header-below k = le16-below (2 * k)
@@ -69,7 +65,3 @@ module _ (p : List ℕ) (known : (k : ℕ) → Fits w8 (getD p k 0)) where
   pub looksAt-below : looksAt p < 3670036
   unfolding looksAt varCount
   looksAt-below = omega (arith, varsAt-below, header-below 3)
-
-  pub endAt-below : endAt p < 4000000
-  unfolding endAt lookCount
-  endAt-below = omega (arith, looksAt-below, header-below 4)

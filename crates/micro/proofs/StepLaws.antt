@@ -5,10 +5,9 @@ use mathlib.Core.Bool.{Bool, true, false, not}
 use mathlib.Core.List.{List, _++_}
 use native.Mathlib.Omega.{arith}
 use lib.ListN.{length, getD}
-use lib.Dec.{leb}
 use borrow.Author.Tests.{le-leb, lt-leb, not-true, not-false}
 use Rattle.plexil.specs.declared.State.{State}
-use Rattle.plexil.specs.Lists.{if_then_else_, renew, put}
+use Rattle.plexil.specs.Lists.{renew, put}
 use Rattle.plexil.specs.Image.{Image, nodeCount}
 use Rattle.plexil.specs.Places.{stateOf}
 use Rattle.plexil.specs.Micro.{sent, wordOf, wordsFrom, words, quiet, step}

@@ -39,9 +39,6 @@ words-none f i e z = words-more f i ∙ (ap (λ (w : ℕ). wordsFrom f 0 i ++ wo
 pub words-one : (f : ℕ → ℕ) (i x : ℕ) {w : ℕ} → w ≡ f i → wordOf i w ≡ x ∷ [] → wordsFrom f 0 (i + 1) ≡ wordsFrom f 0 i ++ (x ∷ [])
 words-one f i x e h = words-more f i ∙ ap (λ (l : List ℕ). wordsFrom f 0 i ++ l) (ap (wordOf i) (sym e) ∙ h)
 
-pub length-one : (f : ℕ → ℕ) (i x : ℕ) {w : ℕ} → w ≡ f i → wordOf i w ≡ x ∷ [] → length (wordsFrom f 0 (i + 1)) ≡ length (wordsFrom f 0 i) + 1
-length-one f i x e h = ap length (words-one f i x e h) ∙ length-append (wordsFrom f 0 i) (x ∷ [])
-
 -- fewer nodes have no more words
 pub words-within : (f : ℕ → ℕ) (i n : ℕ) → i ≤ n → length (wordsFrom f 0 i) ≤ length (wordsFrom f 0 n)
 words-within f i n h =

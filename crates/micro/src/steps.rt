@@ -5,7 +5,6 @@ use atomic::test_children;
 use plexil::State;
 use visit::walk;
 ghost use mathlib.Core.Path.{_≡_};
-ghost use Rattle.plexil.specs.Micro.{quiet};
 ghost use Rattle.plexil.specs.Promises.{IsAdmitted, IsKept};
 ghost use Rattle.micro.specs.Stepped.{steppedOf, partAfter};
 

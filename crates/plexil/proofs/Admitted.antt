@@ -60,17 +60,9 @@ module _ (p : Image) (a : IsAdmitted p) where
   unfolding goodCount
   few-nodes = leb-true _ _ (every-at _ 1 good-count)
 
-  pub few-exprs : exprCount p ≤ 2048
-  unfolding goodCount
-  few-exprs = leb-true _ _ (every-at _ 2 good-count)
-
   pub few-vars : varCount p ≤ 128
   unfolding goodCount
   few-vars = leb-true _ _ (every-at _ 3 good-count)
-
-  pub few-looks : lookCount p ≤ 64
-  unfolding goodCount
-  few-looks = leb-true _ _ (every-at _ 4 good-count)
 
   -- ---- the tree
   pub parent-lower : (i : ℕ) → suc i < nodeCount p → parent p (suc i) < suc i

@@ -18,7 +18,7 @@ use Rattle.plexil.specs.Places.{same, statusAt, initial, varCell, Failur
 use Rattle.plexil.specs.Records.{isList, isAssignment, goodWhat, goodNode}
 use Rattle.plexil.specs.Atomic.{moveOf}
 use Rattle.plexil.specs.Micro.{writes, loses, place, outcomeAfter, failureAfter, entersWaiting, unwritten, varAfter, step}
-use Rattle.plexil.specs.Order.{Carry, carryNothing, walk, wrote, leads, lost, entered, settledVar, settle, NamesOnce}
+use Rattle.plexil.specs.Order.{Carry, carryNothing, walk, wrote, leads, lost, enteredWaiting, settledVar, settle, NamesOnce}
 use Rattle.plexil.specs.Form.{ofType, goodPlace, goodState}
 use Rattle.plexil.specs.Promises.{IsAdmitted, IsKept, Sized, AnyOrder}
 use Rattle.plexil.proofs.ListLaws.{tested, every-at, every-cons, every-stop, every-one, some-cons, some-one, allBelow-at}
@@ -61,15 +61,15 @@ module _ (p : Image) (s : State) (ok : Fits p s) (z : Sized s) (c : Carry) (k : 
       (tested (writes p s i))
 
   -- ---- the variables
-  entered-enters : (i : ℕ) → i < nodeCount p → entered s c i ≡ entersWaiting (moveOf p s i)
-  unfolding entered
-  entered-enters i b = ap (enteredBy s i) (place-is i b) ∙ entered-is p s i
+  waiting-enters : (i : ℕ) → i < nodeCount p → enteredWaiting s c i ≡ entersWaiting (moveOf p s i)
+  unfolding enteredWaiting
+  waiting-enters i b = ap (enteredBy s i) (place-is i b) ∙ entered-is p s i
 
   settled-after : (v : ℕ) → v < varCount p → settledVar p s c v ≡ varAfter p s v
   unfolding settledVar unwritten
   settled-after v b =
       ap (λ (t : Bool). if every (ltb 0 (bestAt c v .top) ∷ eqb (bestAt c v .tied) 0 ∷ []) then bestAt c v .value else if t then initial p v else varCell s v)
-      (entered-enters (owner p v) (ok .owners v b))
+      (waiting-enters (owner p v) (ok .owners v b))
       ∙ met-settles p s v _ count-nil (bestAt c v) (k .met v (omega (arith, ok .variables)))
 
   -- ---- the whole state

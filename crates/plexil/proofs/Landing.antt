@@ -34,7 +34,7 @@ pub not-command : (p : Image) (i : ℕ) → isAssignment p i ≡ true → isComm
 unfolding isAssignment isCommand
 not-command p i h = ap (λ (n : ℕ). eqb n 1) (eqb-true (nodeType p i) 2 h)
 
--- Order.wrote and Order.entered, of node i's place
+-- Order.wrote and Order.enteredWaiting, of node i's place
 abbrev pub wroteBy : Image → State → ℕ → Place → Bool
 wroteBy p s i r =
     every (isAssignment p i ∷ same (statusAt s i) Executing ∷ same (statusOf (r .status)) IterationEnded ∷ ltb (r .failure) ByInvariant ∷ [])

@@ -13,7 +13,7 @@ use Rattle.plexil.specs.Lists.{if_then_else_, some}
 use Rattle.plexil.specs.Image.{Image, default, nodeCount, exprCount, nodeType, conditionField, what, valueField, resultKind, varKind}
 use Rattle.plexil.specs.Expressions.{valueOf}
 use Rattle.plexil.specs.Records.{isList, isCommand, isAssignment, allConditions, goodCondition, goodWhat, goodNode}
-use Rattle.plexil.specs.Scope.{shallow, givenPass, assigns, goodKinds}
+use Rattle.plexil.specs.Scope.{shallow, givenPass, ifAssignment, goodKinds}
 use Rattle.plexil.specs.Atomic.{condition}
 use Rattle.plexil.specs.Promises.{IsAdmitted, IsKept, Reads, itself, ofNot, leftOf, rightOf, NoClash}
 use Rattle.plexil.proofs.ListLaws.{if-either, every-at, every-stop, some-cons}
@@ -72,7 +72,7 @@ module _ (p : Image) (a : IsAdmitted p) (i : ℕ) (b : i < nodeCount p) where
       ltb-true _ _ (every-at _ 2 (some-else _ _ notList (every-stop _ _ (rw n))))
 
   value-kind : isAssignment p i ≡ true → resultKind p (valueField p i) ≡ varKind p (what p i)
-  unfolding goodKinds assigns
+  unfolding goodKinds ifAssignment
   value-kind t = eqb-true _ _ (some-else _ _ (every-at _ 1 (good-kinds p a i b)) (rw t))
 
 -- ---- what the rules read

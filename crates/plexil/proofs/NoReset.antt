@@ -16,7 +16,7 @@ use Rattle.plexil.specs.Lists.{if_then_else_, every, some}
 use Rattle.plexil.specs.Image.{Image, nodeCount, parent, what, owner}
 use Rattle.plexil.specs.Places.{statusCode, same, statusAt}
 use Rattle.plexil.specs.Records.{isAssignment}
-use Rattle.plexil.specs.Scope.{assigns, isAbove, inScope, goodReach}
+use Rattle.plexil.specs.Scope.{ifAssignment, isAbove, inScope, goodReach}
 use Rattle.plexil.specs.Atomic.{isClosing, parentStatus, moveOf}
 use Rattle.plexil.specs.Micro.{isJudged, judges, writes, entersWaiting}
 use Rattle.plexil.specs.Form.{isIdle, allowed}
@@ -89,7 +89,7 @@ busy-up p s a k (suc n) o (suc i) b r h = by (eqb o (suc i)) refl (busy-up p s a
 
 -- ---- the promise
 target-in-scope : (p : Image) (s : State) (i : ℕ) → goodReach p i ≡ true → writes p s i ≡ true → inScope p i (what p i) ≡ true
-unfolding goodReach assigns writes
+unfolding goodReach ifAssignment writes
 target-in-scope p s i g w = every-at _ 1 (given (isAssignment p i) _ (every-at _ 1 g) (every-at _ 0 w))
 
 pub not-written-and-reset : NotWrittenAndReset

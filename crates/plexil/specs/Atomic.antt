@@ -1,7 +1,7 @@
 -- "Node rules", 004's atomic relation: the one move that a node makes. "All reads are of the state before the step."
 use Prim.Native.Nat.{ℕ, zero, suc}
 use mathlib.Core.Bool.{Bool, true, false, not}
-use mathlib.Core.List.{List, [], _∷_}
+use mathlib.Core.List.{[], _∷_}
 use lib.Dec.{eqb}
 use Rattle.plexil.specs.declared.Worked.{Worked}
 use Rattle.plexil.specs.declared.Worked.the-variants.{Bool as Flag}
@@ -14,7 +14,7 @@ use Rattle.plexil.specs.declared.Move.{Move}
 use Rattle.plexil.specs.declared.Move.the-variants.{Stay, Go}
 use Rattle.plexil.specs.declared.Effect.the-variants.{Kept, Cleared, Skipped as Skips, Failed, Judged}
 use Rattle.plexil.specs.Lists.{if_then_else_, every, some, allBelow}
-use Rattle.plexil.specs.Values.{isBool}
+use Rattle.plexil.specs.Values.{says}
 use Rattle.plexil.specs.Image.{Image, default, nodeCount, parent, conditionField}
 use Rattle.plexil.specs.Places.{same, statusAt, markAt, ByPre, ByInvariant, ByParent}
 use Rattle.plexil.specs.Expressions.{valueOf}
@@ -61,18 +61,18 @@ condition p s i c = if eqb (conditionField p i c) default then Flag (defaultOf p
 
 -- a condition is True
 unfoldable pub holds : Image → State → ℕ → Condition → Bool
-holds p s i c = isBool true (condition p s i c)
+holds p s i c = says true (condition p s i c)
 
 -- a condition is False
 unfoldable pub fails : Image → State → ℕ → Condition → Bool
-fails p s i c = isBool false (condition p s i c)
+fails p s i c = says false (condition p s i c)
 
--- "Skip True, then Finished, Skipped. Else Start True: Pre True, then Executing; otherwise IterationEnded, Failure, Pre"
+-- "Skip True, then Finished, Skipped. Else Start True: Pre True, then Executing ..; otherwise IterationEnded, Failure, Pre"
 unfoldable pub fromWaiting : Image → State → ℕ → Move
 fromWaiting p s i =
     if holds p s i Skip then Go Finished Skips else if holds p s i Start then (if holds p s i Pre then Go Executing Kept else Go IterationEnded (Failed ByPre)) else Stay
 
--- "A list or command goes to Failing; an assignment goes to IterationEnded without writing"
+-- "A list or command goes to Failing ..; an assignment goes to IterationEnded without writing"
 unfoldable pub failsBy : Image → ℕ → ℕ → Move
 failsBy p i f = if isAssignment p i then Go IterationEnded (Failed f) else Go Failing (Failed f)
 
@@ -97,19 +97,24 @@ fromEnded u p s i =
 
 -- the rules of each status, u being the parent's
 unfoldable pub byStatus : Status → Status → Image → State → ℕ → Move
+-- "Inactive, parent Executing: Waiting"
 byStatus Inactive u p s i = if same u Executing then Go Waiting Kept else Stay
+-- "Waiting, parent Executing"
 byStatus Waiting u p s i = if same u Executing then fromWaiting p s i else Stay
+-- "Otherwise, End True"
 byStatus Executing u p s i = failureOr u p s i (if holds p s i End then atEnd p s i else Stay)
+-- "Finishing: the same two failures to Failing; else all children Waiting or Finished: IterationEnded"
 byStatus Finishing u p s i = failureOr u p s i (if children p s i isResting then Go IterationEnded Judged else Stay)
+-- "Failing: list with all children Waiting or Finished, or command returned: IterationEnded, outcome kept"
 byStatus Failing u p s i = if settled p s i then Go IterationEnded Kept else Stay
 byStatus IterationEnded u p s i = fromEnded u p s i
 byStatus Finished u p s i = Stay
 
--- "Any status but Inactive, parent Inactive or Waiting: Inactive, outcome and failure cleared"
+-- "Any status but Inactive, parent Inactive or Waiting: Inactive, outcome and failure cleared", before the rules of its status
 unfoldable pub moveBy : Status → Status → Image → State → ℕ → Move
 moveBy c u p s i = if every (not (same c Inactive) ∷ isOff u ∷ []) then Go Inactive Cleared else byStatus c u p s i
 
--- "First rule that applies"
+-- the move of node i: "First rule that applies"
 unfoldable pub moveOf : Image → State → ℕ → Move
 moveOf p s i = moveBy (statusAt s i) (parentStatus p s i) p s i
 

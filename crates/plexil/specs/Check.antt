@@ -27,7 +27,7 @@ ruleNumber Deep = 10
 ruleNumber Kind = 11
 ruleNumber Reach = 12
 
--- how many records a rule is about, and whether record i breaks it; "0 for 1 to 4"
+-- how many records a rule is about, one and so number "0 for 1 to 4", and whether record i breaks it; "2 Edition: not 1"
 unfoldable pub ruleOn : Rule → Image → ℕ × (ℕ → Bool)
 ruleOn Short p = (1, λ i. short p)
 ruleOn Edition p = (1, λ i. not (eqb (edition p) 1))

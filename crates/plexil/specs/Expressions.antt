@@ -1,7 +1,6 @@
 -- "Operators": what an expression entry answers in a state, the remaining depth falling.
 use Prim.Native.Nat.{ℕ, zero, suc}
-use mathlib.Core.Bool.{Bool}
-use mathlib.Core.List.{List, [], _∷_}
+use mathlib.Core.List.{[], _∷_}
 use lib.ListN.{getD}
 use lib.Dec.{eqb}
 use Rattle.plexil.specs.declared.Worked.{Worked}
@@ -27,7 +26,7 @@ pub data Operator : Type 0 where
   binary : Binary → Operator
   noOperator : Operator
 
--- "0 constant; 1 variable a; 2 lookup a; 3 status of node a is b; 4 outcome of node a is b; 5 failure of node a is b; 6 NOT a; 7 AND; 8 OR; 9 EQ; 10 LT; 11 LE; 12 ADD; 13 SUB; 14 MUL"
+-- "0 constant ..; 1 variable a; 2 lookup a; 3 status of node a is b; 4 outcome of node a is b; 5 failure of node a is b; 6 NOT a; 7 AND; 8 OR; 9 EQ; 10 LT; 11 LE; 12 ADD; 13 SUB; 14 MUL"
 unfoldable pub operatorOf : ℕ → Operator
 operatorOf n =
     getD

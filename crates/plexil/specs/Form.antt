@@ -8,7 +8,7 @@ use Rattle.plexil.specs.declared.Cell.{Cell}
 use Rattle.plexil.specs.declared.State.{State}
 use Rattle.plexil.specs.declared.Card.{Card}
 use Rattle.plexil.specs.declared.Status.{Status}
-use Rattle.plexil.specs.declared.Status.the-variants.{Inactive, Waiting, Executing, Finishing, Failing, IterationEnded, Finished}
+use Rattle.plexil.specs.declared.Status.the-variants.{Inactive, Waiting, Executing, Finishing, Failing, Finished}
 use Rattle.plexil.specs.Lists.{if_then_else_, every, some, allBelow, allIn}
 use Rattle.plexil.specs.Values.{goodBits}
 use Rattle.plexil.specs.Image.{Image, nodeCount, varCount, lookCount, varKind, lookKind}
@@ -32,7 +32,7 @@ ofType p i c =
     every (some (not (same c Finishing) ∷ isList p i ∷ []) ∷ some (not (same c Failing) ∷ not (isAssignment p i) ∷ [])
     ∷ some (not (same c Inactive) ∷ ltb 0 i ∷ []) ∷ [])
 
--- "a node Executing or Failing"
+-- Executing or Failing: a node that may await a return
 unfoldable pub isAwaiting : Status → Bool
 isAwaiting c = some (same c Executing ∷ same c Failing ∷ [])
 
@@ -40,7 +40,7 @@ isAwaiting c = some (same c Executing ∷ same c Failing ∷ [])
 unfoldable pub goodMark : Image → State → ℕ → Bool
 goodMark p s i = some (eqb (markAt s i) 0 ∷ every (eqb (markAt s i) 1 ∷ isCommand p i ∷ isAwaiting (statusAt s i) ∷ []) ∷ [])
 
--- "codes are in range"
+-- "codes are in range", and the parent table, the type's statuses and the mark
 unfoldable pub goodPlace : Image → State → ℕ → Bool
 goodPlace p s i =
     every (ltb (getD (s .status) i 0) 7 ∷ ltb (outcomeAt s i) 4 ∷ ltb (failureAt s i) 6

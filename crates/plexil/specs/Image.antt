@@ -49,11 +49,11 @@ varsAt p = exprsAt p + 16 * exprCount p
 unfoldable pub looksAt : Image → ℕ
 looksAt p = varsAt p + 16 * varCount p
 
--- "total length"
+-- where the last section ends, "then total length"
 unfoldable pub endAt : Image → ℕ
 endAt p = looksAt p + 2 * lookCount p
 
--- "Node, 24 bytes": where its record stands, and its fields
+-- "Node, 24 bytes": where its record stands
 unfoldable pub nodeAt : ℕ → ℕ
 nodeAt i = 20 + 24 * i
 

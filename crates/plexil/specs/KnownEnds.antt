@@ -16,7 +16,7 @@ K1 = record {
   turns = runs ran.Quiet 8 [] ∷ holds 0 2 2 ∷ holds 1 2 1 ∷ stands 0 6 1 0 ∷ stands 1 6 1 0 ∷ stands 2 6 1 0 ∷ [];
 }
 
--- "In K1 the children write x := 10 (priority a), x := 20 (b)"
+-- "In K1 the children write x := 10 (priority 5), x := 20 (3)", with the priorities a and b
 unfoldable pub contest : ℕ → ℕ → List ℕ
 contest a b =
     plan (aList no plain ∷ anAssignment 0 a plain 0 0 ∷ anAssignment 0 b plain 0 1 ∷ []) (const 1 10 ∷ const 1 20 ∷ []) (variable 1 1 0 1 ∷ variable 1 1 0 2 ∷ []) []

@@ -1,6 +1,6 @@
 -- "Events", 004's macro step: the shape of an event, its entries, refusals 20 to 25, and what an accepted event changes.
 use Prim.Native.Nat.{ℕ, zero, suc, _+_, _*_, _%_, _^_}
-use mathlib.Core.Bool.{Bool, true, false, not, Bool·beq}
+use mathlib.Core.Bool.{Bool, false, not, Bool·beq}
 use mathlib.Core.List.{List, [], _∷_}
 use lib.ListN.{length, set}
 use lib.Dec.{eqb, ltb, leb}
@@ -17,7 +17,7 @@ use Rattle.plexil.specs.Places.{stateOf, statusAt, markAt, knownCell, Ru
 use Rattle.plexil.specs.Records.{isCommand}
 use Rattle.plexil.specs.Form.{isAwaiting}
 
--- "Serial 32, count 16 (0..128), spare 16, then entries of 12 bytes"
+-- "Serial 32"
 unfoldable pub eventSerial : List ℕ → ℕ
 eventSerial b = le32 b 0
 
@@ -25,15 +25,15 @@ eventSerial b = le32 b 0
 unfoldable pub entryCount : List ℕ → ℕ
 entryCount b = le16 b 4
 
--- "21 Shape: event length, count or spare wrong"
+-- "21 Shape: event length, count or spare wrong"; "Serial 32, count 16 (0..128), spare 16, then entries of 12 bytes"
 unfoldable pub goodShape : List ℕ → Bool
 goodShape b = every (leb (entryCount b) 128 ∷ eqb (le16 b 6) 0 ∷ eqb (length b) (8 + 12 * entryCount b) ∷ [])
 
--- "form 8 (0 lookup value, 1 lookup Unknown, 2 command returned), spare 8, index 16, value 64"
+-- "then entries of 12 bytes": where entry k stands
 unfoldable pub entryAt : ℕ → ℕ
 entryAt k = 8 + 12 * k
 
--- "form 8"
+-- "form 8 (0 lookup value, 1 lookup Unknown, 2 command returned)"
 unfoldable pub form : List ℕ → ℕ → ℕ
 form b k = byteAt b (entryAt k)
 
@@ -68,11 +68,11 @@ namesSame b k j = every (eqb (index b j) (index b k) ∷ Bool·beq (ltb (form b 
 unfoldable pub namedBefore : List ℕ → ℕ → Bool
 namedBefore b k = anyBelow k (namesSame b k)
 
--- "25 NotAwaited: return for a node not Executing or Failing, or marked already"
+-- node i awaits a return
 unfoldable pub awaited : State → ℕ → Bool
 awaited s i = every (isAwaiting (statusAt s i) ∷ eqb (markAt s i) 0 ∷ [])
 
--- entry k is a return that is not awaited
+-- "25 NotAwaited: return for a node not Executing or Failing, or marked already"
 unfoldable pub notAwaited : State → List ℕ → ℕ → Bool
 notAwaited s b k = every (eqb (form b k) 2 ∷ not (awaited s (index b k)) ∷ [])
 
@@ -81,7 +81,7 @@ unfoldable pub orElse : (ℕ → TakeAnswer) → Found → TakeAnswer → TakeAn
 orElse refusal (at k) other = refusal k
 orElse refusal nowhere other = other
 
--- "20 to 25 in order"
+-- "20 to 25 in order"; "20 Busy: event while Running", "22 Turn: serial not the next"
 unfoldable pub eventAnswer : Image → State → Card → List ℕ → TakeAnswer
 eventAnswer p s c b =
     if not (eqb (c .phase) Quiet) then Busy else if not (goodShape b) then Shape else if not (eqb (eventSerial b) (c .serial)) then Turn else orElse Entry (first (entryCount b) (λ k. not (goodEntry p b k)))
@@ -99,7 +99,7 @@ unfoldable pub withMark : State → ℕ → State
 withMark s i =
     stateOf (s .status) (s .outcome) (s .failure) (set (s .mark) i 1) (s .vartags) (s .varbits) (s .looktags) (s .lookbits)
 
--- "An accepted event changes lookups and marks"; by form
+-- "An accepted event changes lookups and marks .. no step is done"; by form
 unfoldable pub enter : Image → List ℕ → ℕ → ℕ → State → State
 enter p b k zero s = withLookup s (index b k) (knownCell (lookKind p (index b k)) (entryBits b k))
 enter p b k (suc zero) s = withLookup s (index b k) (cell 0 0)

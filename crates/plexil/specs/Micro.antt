@@ -4,7 +4,6 @@ use mathlib.Core.Bool.{Bool, true, false, not}
 use mathlib.Core.List.{List, [], _∷_, _++_}
 use lib.ListN.{getD}
 use lib.Dec.{eqb, leb}
-use Rattle.plexil.specs.declared.Worked.{Worked}
 use Rattle.plexil.specs.declared.Cell.{Cell}
 use Rattle.plexil.specs.declared.State.{State}
 use Rattle.plexil.specs.declared.Place.{Place}
@@ -40,7 +39,7 @@ judges (Go a e) = isJudged e
 unfoldable pub writes : Image → State → ℕ → Bool
 writes p s i = every (isAssignment p i ∷ judges (moveOf p s i) ∷ [])
 
--- what node i writes
+-- what node i writes, whatever Post says: "the write still happens"
 unfoldable pub written : Image → State → ℕ → Cell
 written p s i = encode (valueOf p s (valueField p i))
 
@@ -48,7 +47,7 @@ written p s i = encode (valueOf p s (valueField p i))
 unfoldable pub rival : Image → State → ℕ → ℕ → Bool
 rival p s i j = every (not (eqb j i) ∷ eqb (what p j) (what p i) ∷ leb (priority p i) (priority p j) ∷ writes p s j ∷ [])
 
--- "the one with strictly greatest priority number writes. A tie for greatest: none writes."
+-- "Several assignments of one variable in a step: the one with strictly greatest priority number writes. A tie for greatest: none writes."
 unfoldable pub loses : Image → State → ℕ → Bool
 loses p s i = every (writes p s i ∷ anyBelow (nodeCount p) (rival p s i) ∷ [])
 
@@ -56,7 +55,7 @@ loses p s i = every (writes p s i ∷ anyBelow (nodeCount p) (rival p s i) ∷ [
 unfoldable pub wins : Image → State → ℕ → ℕ → Bool
 wins p s v i = every (eqb (what p i) v ∷ writes p s i ∷ not (loses p s i) ∷ [])
 
--- "Post is read before an assignment's write": the state that node i's Post reads
+-- "Post is read before an assignment's write": the state that node i's Post reads is the one before the step
 unfoldable pub readByPost : Image → State → ℕ → State
 readByPost p s i = s
 
@@ -93,12 +92,12 @@ outcomeAfter p s i = if loses p s i then Failure else place p s i .outcome
 unfoldable pub failureAfter : Image → State → ℕ → ℕ
 failureAfter p s i = if loses p s i then WriteLost else place p s i .failure
 
--- "A node's variables return to their initial values when it enters Waiting"
+-- "when it enters Waiting"
 unfoldable pub entersWaiting : Move → Bool
 entersWaiting Stay = false
 entersWaiting (Go a e) = same a Waiting
 
--- variable v where no value enters it
+-- variable v where no value enters it: "A node's variables return to their initial values when it enters Waiting"
 unfoldable pub unwritten : Image → State → ℕ → Cell
 unwritten p s v = if entersWaiting (moveOf p s (owner p v)) then initial p v else varCell s v
 
@@ -124,7 +123,7 @@ step p s = record {
   lookbits = s .lookbits;
 }
 
--- what a command sends: 0 nothing, 1 its word on going to Executing, 2 an abort on going to Failing, "a command not yet returned"
+-- what a command sends: 0 nothing, 1 its word on going to Executing, 2 an abort on going to Failing: "a command not yet returned issues an abort"
 unfoldable pub sentBy : Image → State → ℕ → Move → ℕ
 sentBy p s i Stay = 0
 sentBy p s i (Go a e) =

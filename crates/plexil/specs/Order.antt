@@ -1,7 +1,8 @@
--- "any order is a walk over any list that names each node once": a visit, what it carries on, and the settling.
+-- "any order is a walk over any list that names each node once": a visit, what it carries on, and the settling. `AnyOrder` (Promises) says
+-- that every such walk ends in the definition's next state.
 use Prim.Native.Nat.{ℕ, suc, _+_}
 use mathlib.Core.Path.{_≡_}
-use mathlib.Core.Bool.{Bool, true, false, not}
+use mathlib.Core.Bool.{Bool, not}
 use mathlib.Core.List.{List, [], _∷_}
 use lib.ListN.{getD, set, replicate}
 use lib.Dec.{eqb, ltb}
@@ -12,7 +13,7 @@ use Rattle.plexil.specs.declared.Status.the-variants.{Waiting, Executing
 use Rattle.plexil.specs.Lists.{if_then_else_, every, renew}
 use Rattle.plexil.specs.Values.{cell}
 use Rattle.plexil.specs.Image.{Image, nodeCount, varCount, priority, what, owner}
-use Rattle.plexil.specs.Places.{statusOf, statusCode, same, statusAt, varCell, initial, Failure, ByInvariant, WriteLost}
+use Rattle.plexil.specs.Places.{statusOf, same, statusAt, varCell, initial, Failure, ByInvariant, WriteLost}
 use Rattle.plexil.specs.Records.{isAssignment}
 use Rattle.plexil.specs.Micro.{writes, written, place}
 
@@ -65,7 +66,8 @@ unfoldable pub walk : Image → State → List ℕ → Carry → Carry
 walk p s [] c = c
 walk p s (i ∷ is) c = walk p s is (visit p s c i)
 
--- "After the last visit the writes and the losers are settled from what is carried": node i wrote
+-- "After the last visit the writes and the losers are settled from what is carried" and the state before the step: node i wrote, that is,
+-- it left Executing for IterationEnded, and not by Invariant or Parent
 unfoldable pub wrote : Image → State → Carry → ℕ → Bool
 wrote p s c i =
     every (isAssignment p i ∷ same (statusAt s i) Executing ∷ same (statusOf (getD (c .status) i 0)) IterationEnded ∷ ltb (getD (c .failure) i 0) ByInvariant ∷ [])
@@ -79,14 +81,14 @@ unfoldable pub lost : Image → State → Carry → ℕ → Bool
 lost p s c i = every (wrote p s c i ∷ not (leads p c i) ∷ [])
 
 -- node i enters Waiting
-unfoldable pub entered : State → Carry → ℕ → Bool
-entered s c i = every (not (same (statusAt s i) Waiting) ∷ same (statusOf (getD (c .status) i 0)) Waiting ∷ [])
+unfoldable pub enteredWaiting : State → Carry → ℕ → Bool
+enteredWaiting s c i = every (not (same (statusAt s i) Waiting) ∷ same (statusOf (getD (c .status) i 0)) Waiting ∷ [])
 
 -- a sole leader's value enters; else the variable is reset, or stays
 unfoldable pub settledVar : Image → State → Carry → ℕ → Cell
 settledVar p s c v =
     if every (ltb 0 (getD (c .top) v 0) ∷ eqb (getD (c .tied) v 0) 0 ∷ []) then cell (getD (c .tags) v 0) (getD (c .bits) v 0)
-    else if entered s c (owner p v) then initial p v else varCell s v
+    else if enteredWaiting s c (owner p v) then initial p v else varCell s v
 
 -- the state after the settling
 unfoldable pub settle : Image → State → Carry → State
@@ -112,5 +114,5 @@ NamesOnce p is = (j : ℕ) → count j is ≡ (if ltb j (nodeCount p) then 1 els
 
 -- opens every definition of this file
 unfoldable pub opened : Unit {0}
-unfolding carryNothing putPlace meet visit walk wrote leads lost entered settledVar settle count NamesOnce
+unfolding carryNothing putPlace meet visit walk wrote leads lost enteredWaiting settledVar settle count NamesOnce
 opened = tt

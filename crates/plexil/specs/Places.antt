@@ -1,6 +1,6 @@
 -- "State, card, command list": the codes, what stands at a place, initial values and the fresh state.
-use Prim.Native.Nat.{ℕ, zero, suc, _+_}
-use mathlib.Core.Bool.{Bool, true, false}
+use Prim.Native.Nat.{ℕ, _+_}
+use mathlib.Core.Bool.{Bool}
 use mathlib.Core.List.{List, [], _∷_}
 use lib.ListN.{getD, replicate}
 use lib.Dec.{eqb, ltb}
@@ -10,7 +10,7 @@ use Rattle.plexil.specs.declared.State.{State}
 use Rattle.plexil.specs.declared.Card.{Card}
 use Rattle.plexil.specs.declared.Status.{Status}
 use Rattle.plexil.specs.declared.Status.the-variants.{Inactive, Waiting, Executing, Finishing, Failing, IterationEnded, Finished}
-use Rattle.plexil.specs.Lists.{if_then_else_, every, renew}
+use Rattle.plexil.specs.Lists.{if_then_else_, renew}
 use Rattle.plexil.specs.Values.{cell, decode}
 use Rattle.plexil.specs.Image.{Image, varCount, varKind, varKnown, initialBits}
 
@@ -72,20 +72,20 @@ ByParent = 4
 abbrev pub WriteLost : ℕ
 WriteLost = 5
 
--- "the phase, Running or Quiet"
+-- "The turn card holds the next serial (32 bits) and the phase, Running or Quiet"
 abbrev pub Running : ℕ
 Running = 0
 
--- the other phase
+-- the phase Quiet
 abbrev pub Quiet : ℕ
 Quiet = 1
 
--- a state by its arrays
+-- a state by its arrays: "A state holds, for each of 256 node places, status, outcome, failure and a returned mark, with 128 variable and 64 lookup values"
 abbrev pub stateOf : List ℕ → List ℕ → List ℕ → List ℕ → List ℕ → List ℕ → List ℕ → List ℕ → State
 stateOf st oc fl mk vt vb lt lb =
     record { status = st; outcome = oc; failure = fl; mark = mk; vartags = vt; varbits = vb; looktags = lt; lookbits = lb }
 
--- what stands at node i, at variable v, at lookup l
+-- the status of node i
 unfoldable pub statusAt : State → ℕ → Status
 statusAt s i = statusOf (getD (s .status) i 0)
 

@@ -1,25 +1,25 @@
--- Refusals 1 to 9: the header, the tree of nodes, and each record by itself.
+-- Refusals 1 and 3 to 9: the header, the tree of nodes, and each record by itself.
 use Prim.Native.Nat.{ℕ, zero, suc}
-use mathlib.Core.Bool.{Bool, true, false, not}
-use mathlib.Core.List.{List, [], _∷_}
+use mathlib.Core.Bool.{Bool, false, not}
+use mathlib.Core.List.{[], _∷_}
 use lib.ListN.{length}
 use lib.Dec.{eqb, ltb, leb}
 use Rattle.plexil.specs.declared.Condition.{Condition}
 use Rattle.plexil.specs.declared.Condition.the-variants.{Skip, Start, Pre, Inv, End, Post, Repeat}
 use Rattle.plexil.specs.Lists.{every, some}
 use Rattle.plexil.specs.Values.{goodBits}
-use Rattle.plexil.specs.Image.{Image, default, header, edition, nodeCount, exprCount, varCount, lookCount, exprsAt, varsAt, looksAt, endAt, parent, nodeType, nodeSpare, conditionField, what, valueField, operator, resultKind, operandA, operandB, exprSpare, constant, varKind, varKnown, owner, varSpare, initialBits, lookKind, lookSpare}
+use Rattle.plexil.specs.Image.{Image, default, header, nodeCount, exprCount, varCount, lookCount, exprsAt, varsAt, looksAt, endAt, parent, nodeType, nodeSpare, conditionField, what, valueField, resultKind, operandA, operandB, exprSpare, constant, varKind, varKnown, owner, varSpare, initialBits, lookKind, lookSpare}
 use Rattle.plexil.specs.Expressions.{Leaf, constantOp, variableOp, lookupOp, statusOp, outcomeOp, failureOp, Binary, andOp, orOp, eqOp, ltOp, leOp, addOp, subOp, mulOp, Operator, leaf, notOp, binary, noOperator, operatorAt}
 
 -- "1 Short: image under 20 bytes"
 unfoldable pub short : Image → Bool
 short p = ltb (length p) 20
 
--- "counts of nodes N (1..256), expressions E (0..2048), variables V (0..128), lookups L (0..64)"
+-- "3 Count: outside the limits"; "nodes N (1..256), expressions E (0..2048), variables V (0..128), lookups L (0..64)"
 unfoldable pub goodCount : Image → Bool
 goodCount p = every (ltb 0 (nodeCount p) ∷ leb (nodeCount p) 256 ∷ leb (exprCount p) 2048 ∷ leb (varCount p) 128 ∷ leb (lookCount p) 64 ∷ [])
 
--- "then the offsets of these four sections, then total length"
+-- "4 Layout: an offset, the total length or the image's own length differs"
 unfoldable pub goodLayout : Image → Bool
 goodLayout p =
     every (eqb (header p 5) 20 ∷ eqb (header p 6) (exprsAt p) ∷ eqb (header p 7) (varsAt p) ∷ eqb (header p 8) (looksAt p)
@@ -37,7 +37,7 @@ isCommand p i = eqb (nodeType p i) 1
 unfoldable pub isAssignment : Image → ℕ → Bool
 isAssignment p i = eqb (nodeType p i) 2
 
--- "Node 0 has parent 65535; any other parent is a list with a lower number"
+-- "5 Tree: parent wrong"; "Node 0 has parent 65535; any other parent is a list with a lower number"
 unfoldable pub goodParent : Image → ℕ → Bool
 goodParent p zero = eqb (parent p zero) default
 goodParent p (suc i) = every (ltb (parent p (suc i)) (suc i) ∷ isList p (parent p (suc i)) ∷ [])
@@ -57,7 +57,7 @@ goodWhat p i =
     ∷ every (isCommand p i ∷ ltb (what p i) default ∷ eqb (valueField p i) default ∷ [])
     ∷ every (isAssignment p i ∷ ltb (what p i) (varCount p) ∷ ltb (valueField p i) (exprCount p) ∷ []) ∷ [])
 
--- "6 Node: type, spare or field wrong"
+-- "6 Node: type, spare or field wrong"; "Spares are 0"
 unfoldable pub goodNode : Image → ℕ → Bool
 goodNode p i = every (eqb (nodeSpare p i) 0 ∷ goodWhat p i ∷ allConditions (goodCondition p i) ∷ [])
 
@@ -79,7 +79,7 @@ goodLookup p l = every (ltb (lookKind p l) 3 ∷ eqb (lookSpare p l) 0 ∷ [])
 unfoldable pub operand : Image → ℕ → ℕ → ℕ → Bool
 operand p e a k = every (ltb a e ∷ eqb (resultKind p a) k ∷ [])
 
--- a leaf of kind k that reads entry a of n, with b in its field
+-- a leaf of kind k that reads variable or lookup a, of n; "Fields an operator does not use are 0"
 unfoldable pub reads : Image → ℕ → ℕ → ℕ → Bool
 reads p e n k = every (ltb (operandA p e) n ∷ eqb (operandB p e) 0 ∷ eqb (resultKind p e) k ∷ eqb (constant p e) 0 ∷ [])
 
@@ -105,11 +105,11 @@ takes p e k r =
 unfoldable pub kindOfA : Image → ℕ → ℕ
 kindOfA p e = resultKind p (operandA p e)
 
--- Int or Real
+-- no Bool: "two Int or two Real"
 unfoldable pub isNumber : ℕ → Bool
 isNumber k = not (eqb k 0)
 
--- "7 to 8 take Bool. 9 takes two of one kind. 10 to 14 take two Int or two Real; 12 to 14 keep that kind, 3 to 11 give Bool"
+-- "6 to 8 take Bool. 9 takes two of one kind. 10 to 14 take two Int or two Real; 12 to 14 keep that kind, 3 to 11 give Bool"
 unfoldable pub goodBinary : Binary → Image → ℕ → Bool
 goodBinary andOp p e = takes p e 0 0
 goodBinary orOp p e = takes p e 0 0

@@ -1,13 +1,12 @@
--- The whole reply of each call, and what is lent at exit: "Every call checks its image first, then 30, then 31 or 20 to 25 in order".
+-- The whole reply of each call, and what is lent at exit: "Every call checks its image first, then 30
+-- (not in a fresh start), then 31 or 20 to 25 in order".
 use Prim.Native.Nat.{ℕ}
-use mathlib.Core.Bool.{Bool, true, false}
 use mathlib.Core.List.{List}
 use lib.ListN.{length}
 use lib.Dec.{eqb, ltb}
 use Rattle.plexil.specs.declared.State.{State}
 use Rattle.plexil.specs.declared.Card.{Card}
 use Rattle.plexil.specs.declared.Counts.{Counts}
-use Rattle.plexil.specs.declared.Rule.{Rule}
 use Rattle.plexil.specs.declared.Verdict.{Verdict}
 use Rattle.plexil.specs.declared.Verdict.the-variants.{Admitted, Refused}
 use Rattle.plexil.specs.declared.Checked.{Checked}
@@ -22,7 +21,7 @@ use Rattle.plexil.specs.Lists.{if_then_else_}
 use Rattle.plexil.specs.Image.{Image, nodeCount, exprCount, varCount, lookCount}
 use Rattle.plexil.specs.Places.{freshState, freshCard, Running, Quiet}
 use Rattle.plexil.specs.Check.{ruleNumber, verdict}
-use Rattle.plexil.specs.Quiescence.{End, atQuiet, spent, noRoom, Run, run}
+use Rattle.plexil.specs.Quiescence.{RunEnd, atQuiet, spent, noRoom, Run, run}
 use Rattle.plexil.specs.Form.{goodKept}
 use Rattle.plexil.specs.Macro.{eventAnswer, entryCount, entered, cardAfter}
 
@@ -49,7 +48,7 @@ runNumber ran.NoRoom = numbered 32 0
 runNumber ran.Spent = numbered 0 0
 runNumber ran.Quiet = numbered 0 0
 
--- 1 to 12, 30, and 20 to 25
+-- 1 to 12, 30, and 20 to 25: "with 23 to 25 the lowest breaking entry is named .. and otherwise 0"
 unfoldable pub takeNumber : TakeAnswer → Numbered
 takeNumber (take.Refused r i) = numbered (ruleNumber r) i
 takeNumber take.State = numbered 30 0
@@ -62,6 +61,7 @@ takeNumber (take.NotAwaited k) = numbered 25 k
 takeNumber take.Accepted = numbered 0 0
 
 -- ---- check
+-- what an admitted plan has
 abbrev pub countsOf : Image → Counts
 countsOf p = record { nodes = nodeCount p; exprs = exprCount p; vars = varCount p; looks = lookCount p }
 
@@ -78,7 +78,8 @@ checkedBy (Refused r i) p = record { verdict = Refused r i; counts = noCounts }
 unfoldable pub checkReply : Image → Checked
 checkReply p = checkedBy (verdict p) p
 
--- ---- fresh start
+-- ---- fresh start: no state is tested
+-- an admitted plan's fresh state and card, or what was lent
 unfoldable pub startedBy : Verdict → Image → State → Card → Started
 startedBy Admitted p s c = record { verdict = Admitted; state = freshState p; card = freshCard }
 startedBy (Refused r i) p s c = record { verdict = Refused r i; state = s; card = c }
@@ -88,13 +89,14 @@ unfoldable pub freshReply : Image → State → Card → Started
 freshReply p s c = startedBy (verdict p) p s c
 
 -- ---- run
-unfoldable pub endAnswer : End → RunAnswer
+-- the answer of a run's end
+unfoldable pub endAnswer : RunEnd → RunAnswer
 endAnswer atQuiet = ran.Quiet
 endAnswer spent = ran.Spent
 endAnswer noRoom = ran.NoRoom
 
 -- "The phase is Quiet exactly after the answer Quiet"
-unfoldable pub phaseAfter : End → ℕ
+unfoldable pub phaseAfter : RunEnd → ℕ
 phaseAfter atQuiet = Quiet
 phaseAfter spent = Running
 phaseAfter noRoom = Running
@@ -108,7 +110,7 @@ pub record RunReply : Type 0 where
 unfoldable pub notRun : RunAnswer → State → Card → List ℕ → ℕ → RunReply
 notRun a s c l start = record { ran = record { answer = a; steps = 0; next = start; state = s; card = c }; list = l }
 
--- "It answers the count of steps done and the next free place in the list"
+-- "It answers the count of steps done and the next free place in the list"; "NoRoom keeps the steps already done"
 unfoldable pub hasRun : Card → Run → RunReply
 hasRun c r = record {
   ran = record {
@@ -121,7 +123,7 @@ hasRun c r = record {
   list = r .list;
 }
 
--- "Every call checks its image first, then 30, then 31"
+-- "Every call checks its image first, then 30 .., then 31"; "31 Place: list start beyond its end"
 unfoldable pub ranBy : Verdict → Image → State → Card → ℕ → List ℕ → ℕ → RunReply
 ranBy (Refused r i) p s c budget l start = notRun (ran.Refused r i) s c l start
 ranBy Admitted p s c budget l start =
@@ -132,12 +134,12 @@ unfoldable pub runReply : Image → State → Card → ℕ → List ℕ → ℕ 
 runReply p s c budget l start = ranBy (verdict p) p s c budget l start
 
 -- ---- the taking of an event
--- "Apart from 32 a refusal changes nothing"
+-- "Apart from 32 a refusal changes nothing"; an answer without a number is no refusal
 unfoldable pub takenBy : TakeAnswer → Image → State → Card → List ℕ → Taken
 takenBy a p s c b =
     if eqb (takeNumber a .number) 0 then record { answer = a; state = entered p b (entryCount b) s; card = cardAfter c } else record { answer = a; state = s; card = c }
 
--- "Every call checks its image first, then 30, then 20 to 25 in order"
+-- "Every call checks its image first, then 30 .., then .. 20 to 25 in order"
 unfoldable pub takeAnswer : Verdict → Image → State → Card → List ℕ → TakeAnswer
 takeAnswer (Refused r i) p s c b = take.Refused r i
 takeAnswer Admitted p s c b = if goodKept p s c then eventAnswer p s c b else take.State

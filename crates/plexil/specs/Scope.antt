@@ -1,9 +1,8 @@
 -- Refusals 10 to 12: what a node's expressions reach. The walks go down with the remaining depth, and up to node 0.
 use Prim.Native.Nat.{ℕ, zero, suc}
 use mathlib.Core.Bool.{Bool, true, false, not}
-use mathlib.Core.List.{List, [], _∷_}
+use mathlib.Core.List.{[], _∷_}
 use lib.Dec.{eqb}
-use Rattle.plexil.specs.declared.Condition.{Condition}
 use Rattle.plexil.specs.Lists.{every, some}
 use Rattle.plexil.specs.Image.{Image, default, parent, conditionField, what, valueField, operator, resultKind, operandA, operandB, varKind, owner}
 use Rattle.plexil.specs.Expressions.{Operator, leaf, notOp, binary, noOperator, operatorAt}
@@ -29,14 +28,14 @@ shallow p e = depthWithin p 12 e
 unfoldable pub givenPass : Image → ℕ → (ℕ → Bool) → Bool
 givenPass p i f = allConditions (λ c. some (eqb (conditionField p i c) default ∷ f (conditionField p i c) ∷ []))
 
--- an assignment passes b; no other node assigns
-unfoldable pub assigns : Image → ℕ → Bool → Bool
-assigns p i b = some (not (isAssignment p i) ∷ b ∷ [])
+-- an assignment passes b; any other node passes
+unfoldable pub ifAssignment : Image → ℕ → Bool → Bool
+ifAssignment p i b = some (not (isAssignment p i) ∷ b ∷ [])
 
 -- "11 Kind: condition not Bool, value kind not the target's"
 unfoldable pub goodKinds : Image → ℕ → Bool
 goodKinds p i =
-    every (givenPass p i (λ e. eqb (resultKind p e) 0) ∷ assigns p i (eqb (resultKind p (valueField p i)) (varKind p (what p i))) ∷ [])
+    every (givenPass p i (λ e. eqb (resultKind p e) 0) ∷ ifAssignment p i (eqb (resultKind p (valueField p i)) (varKind p (what p i))) ∷ [])
 
 -- o is node i or above it; the walk goes up at most n nodes
 unfoldable pub isAbove : Image → ℕ → ℕ → ℕ → Bool
@@ -60,9 +59,9 @@ treeInScope p i (suc d) e = every (entryInScope p i e ∷ operandsPass (operator
 -- "12 Reach: a node reads or assigns a variable whose owner is neither it nor above it"
 unfoldable pub goodReach : Image → ℕ → Bool
 goodReach p i =
-    every (givenPass p i (treeInScope p i 12) ∷ assigns p i (every (treeInScope p i 12 (valueField p i) ∷ inScope p i (what p i) ∷ [])) ∷ [])
+    every (givenPass p i (treeInScope p i 12) ∷ ifAssignment p i (every (treeInScope p i 12 (valueField p i) ∷ inScope p i (what p i) ∷ [])) ∷ [])
 
 -- opens every definition of this file
 unfoldable pub opened : Unit {0}
-unfolding operandsPass depthWithin shallow givenPass assigns goodKinds isAbove inScope entryInScope treeInScope goodReach
+unfolding operandsPass depthWithin shallow givenPass ifAssignment goodKinds isAbove inScope entryInScope treeInScope goodReach
 opened = tt

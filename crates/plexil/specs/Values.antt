@@ -1,5 +1,6 @@
--- "Values and expressions": kinds, Unknown, the answer of its own for another kind, and what each operator answers.
-use Prim.Native.Nat.{ℕ, zero, suc, _+_, _-_, _^_}
+-- "Values and expressions": kinds, Unknown, and what each operator answers. A value is a `Worked` (src/lib.rt): "Each kind also has Unknown.
+-- A known value carries its kind; meeting another kind is, in the definition, an answer of its own apart from Unknown", Clash.
+use Prim.Native.Nat.{ℕ, zero, suc, _-_, _^_}
 use mathlib.Core.Bool.{Bool, true, false, not, _&&_, Bool·beq}
 use lib.IntN.{ℤ, pos, negsuc, _+ℤ_, _-ℤ_, _*ℤ_}
 use lib.Signed.{ltZ, leZ}
@@ -33,7 +34,7 @@ finite (fin s m e) = true
 unfoldable pub realIn : Float → Worked
 realIn x = if finite x then Real x else Unknown
 
--- "Bool 0 or 1, Int two's complement, finite Real's bits"
+-- "Kinds: 0 Bool, 1 Int (64-bit signed), 2 Real (binary64, finite)"; "Bool 0 or 1, Int two's complement, finite Real's bits"
 unfoldable pub known : ℕ → ℕ → Worked
 known zero w = Flag (eqb w 1)
 known (suc zero) w = Int (toZ w64 w)
@@ -47,7 +48,7 @@ goodBits (suc zero) w = true
 goodBits (suc (suc zero)) w = finite (Ieee.ofBits binary64 w)
 goodBits (suc (suc (suc k))) w = false
 
--- a kept value, by its tag and bits
+-- a kept value, by its tag, 0 for Unknown and else one more than the kind, and its bits
 unfoldable pub decode : ℕ → ℕ → Worked
 decode zero w = Unknown
 decode (suc k) w = known k w
@@ -100,7 +101,7 @@ andOf = junction false
 unfoldable pub orOf : Worked → Worked → Worked
 orOf = junction true
 
--- "All other operators with an Unknown operand give Unknown"
+-- the two operands of EQ to MUL, sorted: "All other operators with an Unknown operand give Unknown"; beside a known Bool it is UnknownBool, which only EQ takes
 unfoldable pub pairOf : Worked → Worked → Pair
 pairOf Clash y = two.Clash
 pairOf Unknown Clash = two.Clash
@@ -149,7 +150,7 @@ numeric i r (two.Bools a b) = Clash
 numeric i r (two.Ints a b) = i a b
 numeric i r (two.Reals a b) = r a b
 
--- "10 LT"
+-- "10 LT"; "Comparison of known reals is IEEE's"
 unfoldable pub ltOf : Pair → Worked
 ltOf = numeric (λ a b. Flag (ltZ a b)) (λ a b. Flag (Ieee.lt a b))
 
@@ -157,7 +158,7 @@ ltOf = numeric (λ a b. Flag (ltZ a b)) (λ a b. Flag (Ieee.lt a b))
 unfoldable pub leOf : Pair → Worked
 leOf = numeric (λ a b. Flag (leZ a b)) (λ a b. Flag (Ieee.le a b))
 
--- "Real operations round once as IEEE 754 says"
+-- "12 ADD"; "Real operations round once as IEEE 754 says"
 unfoldable pub addOf : Pair → Worked
 addOf = numeric (λ a b. intIn (a +ℤ b)) (λ a b. realIn (Ieee.add binary64 a b))
 
@@ -169,15 +170,15 @@ subOf = numeric (λ a b. intIn (a -ℤ b)) (λ a b. realIn (Ieee.sub binary64 a 
 unfoldable pub mulOf : Pair → Worked
 mulOf = numeric (λ a b. intIn (a *ℤ b)) (λ a b. realIn (Ieee.mul binary64 a b))
 
--- a condition is True, or is False
-unfoldable pub isBool : Bool → Worked → Bool
-isBool d Clash = false
-isBool d Unknown = false
-isBool d (Flag b) = Bool·beq b d
-isBool d (Int z) = false
-isBool d (Real x) = false
+-- v says d: a condition is True, or is False
+unfoldable pub says : Bool → Worked → Bool
+says d Clash = false
+says d Unknown = false
+says d (Flag b) = Bool·beq b d
+says d (Int z) = false
+says d (Real x) = false
 
 -- opens every definition of this file
 unfoldable pub opened : Unit {0}
-unfolding inRange intIn finite realIn known goodBits decode encode notOf decides junction andOf orOf pairOf eqZ eqOf numeric ltOf leOf addOf subOf mulOf isBool Ieee.ofBits Ieee.toBits Ieee.add Ieee.sub Ieee.mul Ieee.lt Ieee.le Ieee.eq
+unfolding inRange intIn finite realIn known goodBits decode encode notOf decides junction andOf orOf pairOf eqZ eqOf numeric ltOf leOf addOf subOf mulOf says Ieee.ofBits Ieee.toBits Ieee.add Ieee.sub Ieee.mul Ieee.lt Ieee.le Ieee.eq
 opened = tt

@@ -13,7 +13,7 @@ use Rattle.plexil.specs.Values.{cell}
 use Rattle.plexil.specs.Image.{Image, nodeType, what, owner}
 use Rattle.plexil.specs.Places.{statusOf, statusCode, same, statusAt, varCell, initial}
 use Rattle.plexil.specs.Records.{isAssignment}
-use Rattle.plexil.specs.Order.{Carry, wrote, leads, lost, entered, settledVar}
+use Rattle.plexil.specs.Order.{Carry, wrote, leads, lost, enteredWaiting, settledVar}
 use Rattle.places.proofs.StatusLaws.{same-code}
 
 -- ---- statuses by their codes
@@ -40,16 +40,16 @@ pub leads-by : (p : Image) (c : Carry) (i v : ℕ) (node tied : List ℕ) → v 
 unfolding leads
 leads-by p c i v node tied e h g = rw (h, g, ← e)
 
-pub entered-by : (s : State) (c : Carry) (i : ℕ) (st st2 : List ℕ) → s .status ≡ st → c .status ≡ st2
-    → entered s c i ≡ every (not (eqb (getD st i 0) 1) ∷ eqb (getD st2 i 0) 1 ∷ [])
-unfolding entered statusAt
-entered-by s c i st st2 h g = rw (h, g, is-waiting (getD st i 0), is-waiting (getD st2 i 0))
+pub waiting-entered : (s : State) (c : Carry) (i : ℕ) (st st2 : List ℕ) → s .status ≡ st → c .status ≡ st2
+    → enteredWaiting s c i ≡ every (not (eqb (getD st i 0) 1) ∷ eqb (getD st2 i 0) 1 ∷ [])
+unfolding enteredWaiting statusAt
+waiting-entered s c i st st2 h g = rw (h, g, is-waiting (getD st i 0), is-waiting (getD st2 i 0))
 
 pub settled-by : (p : Image) (s : State) (c : Carry) (v : ℕ) (top tags bits tied : List ℕ)
     → c .top ≡ top → c .tags ≡ tags → c .bits ≡ bits → c .tied ≡ tied
     → settledVar p s c v
     ≡ (if every (ltb 0 (getD top v 0) ∷ eqb (getD tied v 0) 0 ∷ []) then cell (getD tags v 0) (getD bits v 0)
-    else if entered s c (owner p v) then initial p v else varCell s v)
+    else if enteredWaiting s c (owner p v) then initial p v else varCell s v)
 unfolding settledVar
 settled-by p s c v top tags bits tied h g k m = rw (h, g, k, m)
 

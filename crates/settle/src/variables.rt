@@ -10,7 +10,7 @@ ghost use lib.ListN.{length, getD};
 ghost use Rattle.plexil.specs.declared.State.{State};
 ghost use Rattle.plexil.specs.Lists.{every};
 ghost use Rattle.plexil.specs.Places.{varCell};
-ghost use Rattle.plexil.specs.Order.{Carry, entered, settledVar, settle};
+ghost use Rattle.plexil.specs.Order.{Carry, enteredWaiting, settledVar, settle};
 ghost use Rattle.plexil.specs.Promises.{IsAdmitted};
 
 // "A tie for greatest: none writes": a writer was met, and it is not tied.
@@ -24,8 +24,8 @@ fn written(top: &[u32], tied: &[u8], v: u16) -> bool
 }
 
 // Node i was not Waiting (1), and is now.
-fn entered(st: &[u8], st2: &[u8], i: u16) -> bool
-    ensures { λ r. ⌜ ((s : State) (c : Carry) → s .status ≡ now (st .entry) → c .status ≡ now (st2 .entry) → r ≡ entered s c i) ⌝ }
+fn entered_waiting(st: &[u8], st2: &[u8], i: u16) -> bool
+    ensures { λ r. ⌜ ((s : State) (c : Carry) → s .status ≡ now (st .entry) → c .status ≡ now (st2 .entry) → r ≡ enteredWaiting s c i) ⌝ }
 {
     if at(st, i) == 1 {
         return false;
@@ -53,7 +53,7 @@ fn settled_var(
             bits: at64(bits, v),
         };
     }
-    if entered(st, st2, image::owner(image, v)) {
+    if entered_waiting(st, st2, image::owner(image, v)) {
         return places::initial(image, v);
     }
     old

@@ -19,7 +19,6 @@ use Rattle.plexil.specs.declared.RunAnswer.the-variants as ran
 use Rattle.plexil.specs.declared.Taken.{Taken}
 use Rattle.plexil.specs.declared.TakeAnswer.{TakeAnswer}
 use Rattle.plexil.specs.declared.TakeAnswer.the-variants as take
-use Rattle.plexil.specs.Lists.{if_then_else_}
 use Rattle.plexil.specs.Image.{Image}
 use Rattle.plexil.specs.Places.{freshState, freshCard}
 use Rattle.plexil.specs.Check.{ruleNumber, verdict}

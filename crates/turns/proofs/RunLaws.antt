@@ -1,5 +1,5 @@
 -- A run round by round: how a step ended, the list's part put back, and what is left of the run.
-use Prim.Native.Nat.{ℕ, zero, suc, _+_, _-_, _≤_, _<_}
+use Prim.Native.Nat.{ℕ, suc, _+_, _-_, _≤_, _<_}
 use mathlib.Core.Path.{_≡_, refl, sym, ap, _∙_, subst}
 use mathlib.Core.Bool.{Bool, true, false}
 use mathlib.Core.List.{List, _++_, append-nil}
@@ -13,10 +13,10 @@ use borrow.Author.Tests.{leb-true, leb-false, le-leb, lt-leb}
 use Rattle.plexil.specs.declared.State.{State}
 use Rattle.plexil.specs.declared.Card.{Card}
 use Rattle.plexil.specs.declared.Ran.{Ran}
-use Rattle.plexil.specs.Lists.{if_then_else_, put}
+use Rattle.plexil.specs.Lists.{put}
 use Rattle.plexil.specs.Image.{Image}
 use Rattle.plexil.specs.Micro.{step, words, quiet}
-use Rattle.plexil.specs.Quiescence.{End, atQuiet, spent, noRoom, Run, stop, fits, runFrom, run}
+use Rattle.plexil.specs.Quiescence.{RunEnd, atQuiet, spent, noRoom, Run, stop, fits, runFrom, run}
 use Rattle.plexil.specs.Replies.{endAnswer, phaseAfter, hasRun}
 use Rattle.plexil.specs.Promises.{IsAdmitted, IsKept}
 use Rattle.plexil.proofs.ListLaws.{if-true, if-false}
@@ -171,7 +171,7 @@ module _ (p : Image) (s : State) (budget : ℕ) (l₀ : List ℕ) (start : ℕ) 
         moved e₁ e₂ e₃ e₄ = λ i. runFrom p (budget - (steps + 1)) (e₁ i) (e₂ i) (e₃ i) (next + e₄ i)
 
 -- ---- the reply
-pub reply-of : (c : Card) {r : Run} (e : End) {steps next : ℕ} {t : State} {l : List ℕ} → r ≡ stop e steps next t l
+pub reply-of : (c : Card) {r : Run} (e : RunEnd) {steps next : ℕ} {t : State} {l : List ℕ} → r ≡ stop e steps next t l
     → {x : Ran} → x ≡ ranTo (endAnswer e) (phaseAfter e) steps next t c → {k : List ℕ} → k ≡ l → (x ≡ hasRun c r .ran) × (k ≡ hasRun c r .list)
 unfolding stop hasRun
 reply-of c e h a b = (a ∙ sym (ap (λ (y : Run). hasRun c y .ran) h), b ∙ sym (ap (λ (y : Run). hasRun c y .list) h))

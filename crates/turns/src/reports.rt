@@ -11,6 +11,7 @@ ghost use Rattle.plexil.specs.declared.Verdict.the-variants.{Admitted};
 ghost use Rattle.plexil.specs.Replies.{takeNumber, takenBy, takeAnswer, takeReply};
 ghost use Rattle.plexil.specs.Promises.{IsAdmitted};
 
+// Only Accepted has the number 0.
 fn is_accepted(a: TakeAnswer) -> bool
     ensures { λ r. ⌜ r ≡ eqb (takeNumber a .number) 0 ⌝ }
 {

@@ -1,4 +1,4 @@
-// A run: "steps until Quiet, or answers Spent if its budget is used and a rule still applies, or else NoRoom".
+// A run: "steps until Quiet, or answers Spent if its budget .. is used and a rule still applies, or else NoRoom".
 use super::kept::good_kept;
 use micro::StepEnd;
 use plexil::Card;

@@ -80,9 +80,6 @@ cell-back zero b h g = ap (cell 0) (sym (eqb-true b 0 g))
 cell-back (suc k) b h g = kept-as-is k b h g
 
 -- ---- what is worked out can be kept
-pub int-keeps : (z : ℤ) → Keepable (intIn z)
-unfolding intIn
-int-keeps z = if-either Keepable (inRange z) (w.Int z) w.Unknown (λ h. h) (λ h. tt)
 
 pub real-keeps : (x : Float) → T (fits binary64 x) → Keepable (realIn x)
 unfolding realIn

@@ -18,5 +18,5 @@ pub use numbers::mul_of;
 pub use numbers::sub_of;
 pub use pairs::eq_of;
 pub use pairs::pair_of;
-pub use truth::is_bool;
 pub use truth::not_of;
+pub use truth::says;

@@ -1,7 +1,7 @@
 // NOT, and what a rule asks of a condition.
 use plexil::Worked;
 ghost use mathlib.Core.Path.{_≡_};
-ghost use Rattle.plexil.specs.Values.{notOf, isBool};
+ghost use Rattle.plexil.specs.Values.{notOf, says};
 
 // "NOT Unknown is Unknown"
 pub fn not_of(a: Worked) -> Worked
@@ -16,9 +16,9 @@ pub fn not_of(a: Worked) -> Worked
     }
 }
 
-// a condition is True (d), or is False
-pub fn is_bool(d: bool, v: Worked) -> bool
-    ensures { λ r. ⌜ r ≡ isBool d v ⌝ }
+// v says d: a condition is True, or is False
+pub fn says(d: bool, v: Worked) -> bool
+    ensures { λ r. ⌜ r ≡ says d v ⌝ }
 {
     match v {
         Worked::Clash => false,

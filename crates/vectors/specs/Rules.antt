@@ -39,7 +39,7 @@ waiting =
     ∷ assigned (only 2 3) 2 6 2 1 1 ∷ assigned (only 2 2) 3 6 1 0 10 ∷ []
 
 -- "else Inv False gives Invariant"; an Unknown Inv is no failure. "an assignment goes to IterationEnded without writing".
--- "Otherwise, End True: an assignment writes". "Success, failure none, if Post is True, else Failure, Post. Post is read before an assignment's
+-- "Otherwise, End True: .. an assignment writes". "Success, failure none, if Post is True, else Failure, Post. Post is read before an assignment's
 -- write; the write still happens". "Repeat True gives Waiting; else Finished"
 unfoldable pub executing : List Case
 executing =
@@ -73,7 +73,7 @@ returning = record {
       ∷ runs ran.Quiet 0 [] ∷ stands 0 2 0 0 ∷ marked 0 1 ∷ takes (event 2 (entry 0 1 1 ∷ [])) 0 0 ∷ steps 1 ∷ stands 0 5 1 0 ∷ marked 0 0 ∷ runs ran.Quiet 1 [] ∷ stands 0 6 1 0 ∷ [];
 }
 
--- "A command goes to Failing, a command not yet returned issues an abort"; Failing, "command returned: IterationEnded, outcome kept"
+-- "A list or command goes to Failing, a command not yet returned issues an abort"; Failing, "command returned: IterationEnded, outcome kept"
 unfoldable pub aborting : Case
 aborting = record {
   image = commanded;

@@ -20,7 +20,7 @@ neverStarted = record {
 unfoldable pub closing : List ℕ
 closing = plan (aList no (both 3 1 4 0) ∷ aCommand 0 (only 6 2) ∷ []) (expr 3 0 1 2 0 ∷ expr 2 0 0 0 0 ∷ const 0 1 ∷ []) [] (lookup 0 ∷ [])
 
--- "Finishing: all children Waiting or Finished: IterationEnded". "IterationEnded: parent Finishing or Failing: Finished"
+-- "Finishing: .. else all children Waiting or Finished: IterationEnded". "IterationEnded: parent Finishing or Failing: Finished"
 unfoldable pub closes : Case
 closes = record {
   image = closing;
@@ -63,7 +63,7 @@ unnamed = record {
 unfoldable pub over : List ℕ
 over = plan (aList no (only 6 0) ∷ aList 0 plain ∷ anAssignment 1 0 plain 0 1 ∷ []) (const 0 1 ∷ const 1 10 ∷ []) (variable 1 1 2 1 ∷ []) []
 
--- "Any status but Inactive, parent Inactive or Waiting: Inactive, outcome and failure cleared. Inactive, parent Executing: Waiting."
+-- "Any status but Inactive, parent Inactive or Waiting: Inactive, outcome and failure cleared." "Inactive, parent Executing: Waiting."
 -- "A node's variables return to their initial values when it enters Waiting"
 unfoldable pub startsOver : Case
 startsOver = record {

@@ -11,7 +11,7 @@ use mir.Val.{ofZ, boolByte}
 use Rattle.plexil.specs.declared.Worked.{Worked}
 use Rattle.plexil.specs.declared.Worked.the-variants.{Clash, Unknown, Bool as Flag, Int, Real}
 use Rattle.plexil.specs.Lists.{every}
-use Rattle.plexil.specs.Values.{goodBits, decode, encode, notOf, isBool}
+use Rattle.plexil.specs.Values.{goodBits, decode, encode, notOf, says}
 use Rattle.plexil.specs.Expressions.{Binary, andOp, orOp, eqOp, ltOp, leOp, addOp, subOp, mulOp, binaryOf}
 
 -- a value by its tag, 4 for a Clash, and its bits
@@ -51,7 +51,7 @@ meets o = map (λ x. map (λ y. digit (binaryOf o x y)) samples) samples
 abbrev pub clashes : List ℕ
 clashes = 9 ∷ 9 ∷ 9 ∷ 9 ∷ 9 ∷ 9 ∷ []
 
--- a row for each left sample, a column for each right one: "meeting another kind is an answer of its own apart from Unknown"
+-- a row for each left sample, a column for each right one: "meeting another kind is .. an answer of its own apart from Unknown"
 unfoldable pub metAll : List (List (List ℕ))
 metAll = meets andOp ∷ meets orOp ∷ meets eqOp ∷ meets ltOp ∷ meets leOp ∷ meets addOp ∷ meets subOp ∷ meets mulOp ∷ []
 
@@ -131,7 +131,7 @@ realTests =
 
 -- "NOT Unknown is Unknown"; which conditions are True, which are False
 unfoldable pub alone : List (List ℕ)
-alone = map (λ x. digit (notOf x) ∷ boolByte (isBool true x) ∷ boolByte (isBool false x) ∷ []) samples
+alone = map (λ x. digit (notOf x) ∷ boolByte (says true x) ∷ boolByte (says false x) ∷ []) samples
 
 unfoldable pub aloneExpected : List (List ℕ)
 aloneExpected = (9 ∷ 0 ∷ 0 ∷ []) ∷ (8 ∷ 0 ∷ 0 ∷ []) ∷ (1 ∷ 0 ∷ 1 ∷ []) ∷ (0 ∷ 1 ∷ 0 ∷ []) ∷ (9 ∷ 0 ∷ 0 ∷ []) ∷ (9 ∷ 0 ∷ 0 ∷ []) ∷ []

@@ -9,7 +9,7 @@ use Rattle.plexil.specs.declared.State.{State}
 use Rattle.plexil.specs.declared.Place.{Place}
 use Rattle.plexil.specs.declared.Move.{Move}
 use Rattle.plexil.specs.declared.Worked.{Worked}
-use Rattle.plexil.specs.Lists.{if_then_else_, every, allBelow, renew}
+use Rattle.plexil.specs.Lists.{every, allBelow, renew}
 use Rattle.plexil.specs.Values.{encode}
 use Rattle.plexil.specs.Image.{Image, nodeCount, what, priority, valueField}
 use Rattle.plexil.specs.Expressions.{valueOf}

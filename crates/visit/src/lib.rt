@@ -9,7 +9,7 @@ use plexil::Place;
 ghost use mathlib.Core.Path.{_≡_};
 ghost use mathlib.Core.Bool.{not, false};
 ghost use mathlib.Core.List.{List};
-ghost use Prim.Native.Nat.{ℕ, _<_, _≤_};
+ghost use Prim.Native.Nat.{ℕ, _<_};
 ghost use lib.ListN.{getD, set, length};
 ghost use Rattle.plexil.specs.Lists.{allBelow, renew};
 ghost use Rattle.plexil.specs.Image.{nodeCount};

@@ -1,5 +1,5 @@
 -- After i nodes what is carried is the walk's as far as i; what is left of the nodes falls.
-use Rattle.visit.proofs.CarryLaws.{walk-end}
+use Rattle.visit.proofs.CarryLaws.{walk-end, allBelow-or, walk-next}
 use native.Mathlib.Omega.{arith}
 use Prim.Native.Nat.{ℕ, _≤_, _-_}
 use mathlib.Core.Path.{_≡_, refl, sym, _∙_}
@@ -13,7 +13,6 @@ use Rattle.plexil.proofs.Admitted.{few-nodes}
 use Rattle.plexil.proofs.RenewLaws.{renew-none, stored}
 use Rattle.plexil.proofs.NodeOrder.{walkTo, walkTo-zero}
 use Rattle.plexil.specs.Order.{carryOf}
-use Rattle.visit.proofs.CarryLaws.{allBelow-or, walk-next}
 use Rattle.visit.proofs.walk.Statement.{statement}
 use Rattle.visit.proofs.walk.Tie as tie
 

@@ -2,13 +2,13 @@
 use mathlib.Core.Path.{ap, refl}
 use mathlib.Core.Bool.{not}
 use Rattle.plexil.specs.Records.{isAssignment}
-use Rattle.plexil.specs.Scope.{assigns}
+use Rattle.plexil.specs.Scope.{ifAssignment}
 use Rattle.plexil.proofs.TestLaws.{one-passes, or-else, or-last, eq-yes, eq-no}
 use Rattle.admit.proofs.kinds.good_value.Statement.{statement}
 use Rattle.admit.proofs.kinds.good_value.Tie as tie
 
 pub good-value-spec : {M : Type 1} → statement M
-unfolding assigns isAssignment
+unfolding ifAssignment isAssignment
 good-value-spec =
     tie.close
     (tie.spec

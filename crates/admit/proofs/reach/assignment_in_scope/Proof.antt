@@ -2,13 +2,13 @@
 use mathlib.Core.Path.{sym, ap, refl, _∙_}
 use mathlib.Core.Bool.{not}
 use Rattle.plexil.specs.Records.{isAssignment}
-use Rattle.plexil.specs.Scope.{assigns}
+use Rattle.plexil.specs.Scope.{ifAssignment}
 use Rattle.plexil.proofs.TestLaws.{one-fails, and-then, and-last, one-passes, or-else, or-last, eq-yes, eq-no}
 use Rattle.admit.proofs.reach.assignment_in_scope.Statement.{statement}
 use Rattle.admit.proofs.reach.assignment_in_scope.Tie as tie
 
 pub assignment-in-scope-spec : {M : Type 1} → statement M
-unfolding assigns isAssignment
+unfolding ifAssignment isAssignment
 assignment-in-scope-spec =
     tie.close
     (tie.spec

@@ -1,8 +1,7 @@
 -- One node up in each turn.
 
-use mathlib.Core.Path.{sym, ap, refl, _∙_}
+use mathlib.Core.Path.{sym, ap, refl, _∙_, _≡_}
 use native.Mathlib.Omega.{arith}
-use mathlib.Core.Path.{_≡_}
 use Rattle.plexil.specs.Scope.{isAbove}
 use Rattle.admit.proofs.Scope.{above-here, above-top, above-up, above-none}
 use Rattle.admit.proofs.reach.is_above.Statement.{statement}

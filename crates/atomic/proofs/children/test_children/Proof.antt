@@ -1,11 +1,9 @@
 -- After j nodes each row of flags has the answer of the nodes below j; what is left of the nodes falls.
 use borrow.Author.Needs.{needs}
 use native.Mathlib.Omega.{arith}
-use mathlib.Core.Path.{_≡_, sym, ap, _∙_, subst}
+use mathlib.Core.Path.{_≡_}
 use mathlib.Core.Logic.{⊎-elim}
-use mathlib.Core.List.{List}
-use mathlib.Core.Bool.{Bool}
-use Prim.Native.Nat.{ℕ, _≤_, _-_}
+use Prim.Native.Nat.{_≤_, _-_}
 use Rattle.plexil.specs.Image.{nodeCount}
 use Rattle.plexil.specs.Atomic.{isFinished, isResting}
 use Rattle.atomic.proofs.ChildLaws.{Row, row-start, row-skip, row-set, row-end}

@@ -1,10 +1,6 @@
 -- Outcome and failure by the effect.
-use mathlib.Core.Path.{refl}
-use Rattle.plexil.specs.declared.Condition.the-variants.{Post}
 use Rattle.plexil.specs.Places.{outcomeAt, failureAt}
-use Rattle.plexil.specs.Atomic.{defaultOf}
-use Rattle.plexil.specs.Micro.{readByPost, postHolds, endingBy}
-use Rattle.atomic.proofs.RuleLaws.{holds-is, judged-is}
+use Rattle.plexil.specs.Micro.{endingBy}
 use borrow.Author.Needs.{needs}
 use Rattle.atomic.proofs.moved.ending_by.Statement.{statement}
 use Rattle.atomic.proofs.moved.ending_by.Tie as tie
@@ -33,31 +29,27 @@ enum-known-e c = search needs
 enum-told-4 : tie.Need-enum-told-4
 enum-told-4 c = search needs
 
-holds-requires : tie.Need-holds-requires
-holds-requires c κs = search needs
-
 judged-requires : tie.Need-judged-requires
 judged-requires c κs = search needs
 
 returns : tie.Need-returns
 unfolding endingBy outcomeAt failureAt
-returns c mark = rw (c .before .before .enum-told .given .1) (c .before .at .ensures, c .at2 .ensures)
+returns c mark = rw (c .before .before .enum-told .given .1) (λ k. record { outcome = c .before .at .ensures k; failure = c .at2 .ensures k })
 
 returns-2 : tie.Need-returns-2
 unfolding endingBy
-returns-2 c mark = rw (c .enum-told2 .given .1) (refl, refl)
+returns-2 c mark = rw (c .enum-told2 .given .1)
 
 returns-3 : tie.Need-returns-3
 unfolding endingBy failureAt
-returns-3 c mark = rw (c .before .enum-told3 .given .1) (refl, c .at3 .ensures)
+returns-3 c mark = rw (c .before .enum-told3 .given .1) (λ k. record { outcome = 3; failure = c .at3 .ensures k })
 
 returns-4 : tie.Need-returns-4
 unfolding endingBy
-returns-4 c mark = rw (c .before .e .given .1) (refl, refl)
+returns-4 c mark = rw (c .before .e .given .1)
 
 returns-5 : tie.Need-returns-5
-unfolding endingBy postHolds readByPost defaultOf
-returns-5 c mark = rw (c .before .before .enum-told4 .given .1) (judged-is (holds-is _ _ _ Post _ refl (c .before .holds .ensures mark)) (c .judged .ensures .0) (c .judged .ensures .1))
+returns-5 c mark = rw (c .before .enum-told4 .given .1) (c .judged .ensures mark)
 
 pub ending-by-spec : {M : Type 1} → statement M
-ending-by-spec = tie.close (tie.spec enum-told at-requires at-requires-2 enum-told-2 enum-told-3 at-requires-3 enum-known-e enum-told-4 holds-requires judged-requires returns returns-2 returns-3 returns-4 returns-5)
+ending-by-spec = tie.close (tie.spec enum-told at-requires at-requires-2 enum-told-2 enum-told-3 at-requires-3 enum-known-e enum-told-4 judged-requires returns returns-2 returns-3 returns-4 returns-5)

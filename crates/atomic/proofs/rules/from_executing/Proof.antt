@@ -2,7 +2,7 @@
 use mathlib.Core.Path.{refl, sym, _∙_}
 use Rattle.plexil.specs.declared.Condition.the-variants.{Inv, End}
 use Rattle.plexil.specs.Lists.{if_then_else_}
-use Rattle.plexil.specs.Atomic.{defaultOf, failureOr, byStatus}
+use Rattle.plexil.specs.Atomic.{failureOr, byStatus}
 use Rattle.atomic.proofs.RuleLaws.{holds-is, fails-is, inv-default}
 use borrow.Author.Needs.{needs}
 use Rattle.atomic.proofs.rules.from_executing.Statement.{statement}

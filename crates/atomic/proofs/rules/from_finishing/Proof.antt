@@ -1,5 +1,5 @@
 -- The two failures, then the children.
-use mathlib.Core.Path.{refl, sym, _∙_}
+use mathlib.Core.Path.{sym, _∙_}
 use Rattle.plexil.specs.declared.Condition.the-variants.{Inv}
 use Rattle.plexil.specs.Lists.{if_then_else_}
 use Rattle.plexil.specs.Atomic.{failureOr, byStatus}

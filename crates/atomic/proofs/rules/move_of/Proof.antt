@@ -1,9 +1,6 @@
 -- Cut off by the parent, or else by status.
-use Rattle.plexil.specs.declared.State.{State}
 use Rattle.atomic.proofs.RuleLaws.{cut-off, by-rule}
-use mathlib.Core.Path.{refl, sym, ap₂, _∙_}
-use Rattle.plexil.specs.Lists.{if_then_else_}
-use Rattle.plexil.specs.Atomic.{moveBy, moveOf}
+use mathlib.Core.Path.{refl, _∙_}
 use borrow.Author.Needs.{needs}
 use Rattle.atomic.proofs.rules.move_of.Statement.{statement}
 use Rattle.atomic.proofs.rules.move_of.Tie as tie

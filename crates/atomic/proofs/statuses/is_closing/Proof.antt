@@ -1,3 +1,4 @@
+-- Finishing or Failing, test after test.
 use mathlib.Core.Path.{sym, _∙_}
 use Rattle.plexil.proofs.ListLaws.{some-stop, some-cons, some-one}
 use Rattle.plexil.specs.Atomic.{isClosing}

@@ -1,3 +1,4 @@
+-- Finished is one status.
 use Rattle.plexil.specs.Atomic.{isFinished}
 use borrow.Author.Needs.{needs}
 use Rattle.atomic.proofs.statuses.is_finished.Statement.{statement}

@@ -1,3 +1,4 @@
+-- Waiting or Finished, test after test.
 use mathlib.Core.Path.{sym, _∙_}
 use Rattle.plexil.proofs.ListLaws.{some-stop, some-cons, some-one}
 use Rattle.plexil.specs.Atomic.{isResting}

@@ -1,7 +1,7 @@
 -- Below i every node stays; what is left of the nodes falls.
 use native.Mathlib.Omega.{arith}
 use Prim.Native.Nat.{ℕ, _≤_, _-_}
-use mathlib.Core.Path.{_≡_, refl, sym, ap, _∙_}
+use mathlib.Core.Path.{_≡_, refl}
 use mathlib.Core.Bool.{true}
 use Rattle.plexil.specs.Lists.{allBelow}
 use Rattle.plexil.specs.Image.{nodeCount}

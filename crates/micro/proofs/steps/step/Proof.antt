@@ -1,7 +1,7 @@
 -- The parts of a step together: the walk in node order, settled, is the definition's next state.
 use borrow.Author.Needs.{needs}
 use native.Mathlib.Omega.{arith}
-use mathlib.Core.Path.{_≡_, refl, sym, ap, _∙_}
+use mathlib.Core.Path.{refl, sym, ap, _∙_}
 use lib.ListN.{length}
 use Rattle.plexil.specs.Micro.{quiet}
 use Rattle.plexil.specs.Order.{carryNothing}

@@ -1,7 +1,7 @@
-use mathlib.Core.Path.{_≡_, refl, sym, ap, _∙_}
+-- The count is that of the words of the nodes below i; what is left of the nodes falls.
+use mathlib.Core.Path.{_≡_, refl, ap, _∙_}
 use Rattle.micro.proofs.WordLaws.{sentWords, count-none, count-one}
 use borrow.Author.Needs.{needs}
--- The count is that of the words of the nodes below i; what is left of the nodes falls.
 use Prim.Native.Nat.{ℕ, _≤_, _-_}
 use mathlib.Core.Logic.{⊎-elim}
 use native.Mathlib.Omega.{arith}

@@ -1,12 +1,11 @@
+-- The list's part begins with the words of the nodes below i; what is left of the nodes falls.
 use mathlib.Core.Path.{_≡_, refl, sym, ap, _∙_}
-use lib.ListN.{length-set}
+use lib.ListN.{length-set, length, getD}
 use Rattle.micro.proofs.WordLaws.{sentWords, count-none, count-one, list-none, list-one, has-room}
 use borrow.Author.Needs.{needs}
--- The list's part begins with the words of the nodes below i; what is left of the nodes falls.
 use Prim.Native.Nat.{ℕ, _≤_, _-_}
 use mathlib.Core.Logic.{⊎-elim}
 use native.Mathlib.Omega.{arith}
-use lib.ListN.{length, getD}
 use Rattle.plexil.specs.Lists.{put}
 use Rattle.plexil.specs.Micro.{wordsFrom}
 use Rattle.plexil.proofs.PutLaws.{put-none}

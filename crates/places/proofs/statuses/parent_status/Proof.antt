@@ -1,3 +1,4 @@
+-- Node 0 reads Executing, any other its parent's place.
 use mathlib.Core.Path.{_∙_, ap}
 use Rattle.plexil.specs.Places.{statusAt}
 use Rattle.places.proofs.StatusLaws.{root-reads, child-reads}

@@ -1,4 +1,5 @@
-use mathlib.Core.Path.{_≡_, ap₂}
+-- Two statuses are one where their codes are.
+use mathlib.Core.Path.{ap₂}
 use lib.Dec.{eqb}
 use Rattle.plexil.specs.Places.{same}
 use borrow.Author.Needs.{needs}

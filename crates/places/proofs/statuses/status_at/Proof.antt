@@ -1,3 +1,4 @@
+-- The status that a place's code says.
 use Rattle.places.proofs.StatusLaws.{status-in}
 use borrow.Author.Needs.{needs}
 use Rattle.places.proofs.statuses.status_at.Statement.{statement}

@@ -1,6 +1,6 @@
+-- A code for each status.
 use borrow.Author.Needs.{needs}
 use Rattle.plexil.specs.Places.{statusCode}
-use borrow.Author.Needs.{needs}
 use Rattle.places.proofs.statuses.status_code.Statement.{statement}
 use Rattle.places.proofs.statuses.status_code.Tie as tie
 

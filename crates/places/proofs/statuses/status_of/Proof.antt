@@ -1,3 +1,4 @@
+-- A status for each code, and Inactive for any other.
 use Rattle.plexil.specs.Places.{statusOf}
 use Rattle.places.proofs.StatusLaws.{other-code}
 use Rattle.places.proofs.statuses.status_of.Statement.{statement}

@@ -10,9 +10,8 @@ use Rattle.plexil.specs.Lists.{renew}
 use Rattle.plexil.specs.Image.{nodeCount}
 use Rattle.plexil.specs.Order.{Carry, lost, settle}
 use Rattle.plexil.proofs.ListLaws.{if-true, if-false}
-use Rattle.plexil.proofs.RenewLaws.{renew-none}
+use Rattle.plexil.proofs.RenewLaws.{renew-none, unread, stored, kept, whole}
 use Rattle.plexil.proofs.Admitted.{few-nodes}
-use Rattle.plexil.proofs.RenewLaws.{unread, stored, kept, whole}
 use Rattle.settle.proofs.Laws.{losersGet}
 use Rattle.settle.proofs.losers.settle_places.Statement.{statement}
 use Rattle.settle.proofs.losers.settle_places.Tie as tie

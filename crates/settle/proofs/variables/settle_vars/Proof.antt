@@ -11,9 +11,8 @@ use Rattle.plexil.specs.Values.{cell}
 use Rattle.plexil.specs.Image.{varCount}
 use Rattle.plexil.specs.Places.{varCell}
 use Rattle.plexil.specs.Order.{Carry, settledVar, settle}
-use Rattle.plexil.proofs.RenewLaws.{renew-none}
+use Rattle.plexil.proofs.RenewLaws.{renew-none, unread, stored, whole}
 use Rattle.plexil.proofs.Admitted.{few-vars}
-use Rattle.plexil.proofs.RenewLaws.{unread, stored, whole}
 use Rattle.settle.proofs.variables.settle_vars.Statement.{statement}
 use Rattle.settle.proofs.variables.settle_vars.Tie as tie
 

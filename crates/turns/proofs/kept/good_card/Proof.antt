@@ -1,5 +1,5 @@
 -- Running, or Quiet while no rule applies.
-use mathlib.Core.Path.{_≡_, refl, sym, ap, _∙_}
+use mathlib.Core.Path.{sym, _∙_}
 use borrow.Author.Tests.{eq-eqb, ne-eqb}
 use Rattle.plexil.specs.Form.{goodCard}
 use Rattle.plexil.proofs.ListLaws.{some-stop, some-cons, some-one, every-cons, every-stop, every-one}

@@ -1,5 +1,5 @@
 -- The state, then the card.
-use mathlib.Core.Path.{_≡_, refl, sym, ap, _∙_}
+use mathlib.Core.Path.{sym, _∙_}
 use Rattle.plexil.specs.Form.{goodKept}
 use Rattle.plexil.proofs.ListLaws.{every-cons, every-stop, every-one}
 use Rattle.turns.proofs.kept.good_kept.Statement.{statement}

@@ -1,5 +1,5 @@
 -- 30 before 20 to 25.
-use mathlib.Core.Path.{_≡_, refl, sym, ap, _∙_}
+use mathlib.Core.Path.{sym, _∙_}
 use Rattle.plexil.specs.Replies.{takeAnswer}
 use Rattle.plexil.proofs.ListLaws.{if-true, if-false}
 use Rattle.turns.proofs.reports.answer.Statement.{statement}

@@ -1,6 +1,6 @@
 -- By the verdict.
 use borrow.Author.Needs.{needs}
-use mathlib.Core.Path.{_≡_, refl, sym, ap, _∙_}
+use mathlib.Core.Path.{ap, _∙_}
 use Rattle.plexil.specs.Replies.{RunReply}
 use Rattle.turns.proofs.ReplyLaws.{verdict-is, run-admitted-is, run-refused}
 use Rattle.turns.proofs.runs.run.Statement.{statement}

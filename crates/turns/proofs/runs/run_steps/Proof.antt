@@ -3,7 +3,7 @@ use borrow.Author.Needs.{needs}
 use native.Mathlib.Omega.{arith}
 use Prim.Native.Nat.{_-_}
 use lib.ListN.{length}
-use mathlib.Core.Path.{_≡_, refl, sym, ap, _∙_}
+use mathlib.Core.Path.{refl, sym, ap, _∙_}
 use Rattle.plexil.specs.Quiescence.{atQuiet, spent, noRoom}
 use Rattle.plexil.specs.Replies.{endAnswer, phaseAfter}
 use Rattle.turns.proofs.RunLaws.{ended-quiet, ended-crowded, ended-done, back-same, Going, going-start, going-quiet, going-spent, going-crowded, going-on, reply-of}

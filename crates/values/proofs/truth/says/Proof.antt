@@ -1,12 +1,12 @@
 -- True or False, by the kind.
-use Rattle.plexil.specs.Values.{isBool}
+use Rattle.plexil.specs.Values.{says}
 use borrow.Author.Needs.{needs}
-use Rattle.values.proofs.truth.is_bool.Statement.{statement}
-use Rattle.values.proofs.truth.is_bool.Tie as tie
+use Rattle.values.proofs.truth.says.Statement.{statement}
+use Rattle.values.proofs.truth.says.Tie as tie
 
-pub is-bool-spec : {M : Type 1} → statement M
-unfolding isBool
-is-bool-spec =
+pub says-spec : {M : Type 1} → statement M
+unfolding says
+says-spec =
     tie.close
     (tie.spec
     (λ c. search needs)
