@@ -8,8 +8,8 @@ use mir.Val.{Fits}
 use lib.ListN.{length, getD, List·getD-eq-default}
 use Rattle.plexil.specs.declared.Condition.{Condition}
 use Rattle.plexil.specs.declared.Condition.the-variants.{Skip, Start, Pre, Inv, End, Post, Repeat}
-use Rattle.plexil.specs.Bytes.{byteAt, le16, le32, le64}
-use Rattle.plexil.specs.Image.{header, nodeCount, exprCount, varCount, lookCount, exprsAt, varsAt, looksAt, endAt, conditionAt}
+use Rattle.plexil.specs.Bytes.{byteAt, le16}
+use Rattle.plexil.specs.Image.{header, nodeCount, exprCount, varCount, exprsAt, varsAt, looksAt, conditionAt}
 
 -- past the end every byte is 0
 pub byteAt-past : (p : List ℕ) {k : ℕ} → length p ≤ k → byteAt p k ≡ 0
@@ -45,10 +45,6 @@ module _ (p : List ℕ) (known : (k : ℕ) → Fits w8 (getD p k 0)) where
   pub le16-below : (k : ℕ) → le16 p k < 65536
   unfolding le16
   le16-below k = omega (arith, byteAt-below k, byteAt-below (k + 1))
-
-  pub le32-below : (k : ℕ) → le32 p k < 4294967296
-  unfolding le32
-  le32-below k = omega (arith, le16-below k, le16-below (k + 2))
 
   pub header-below : (k : ℕ) → header p k < 65536
   unfolding header

@@ -1,6 +1,6 @@
 -- Promise 3: each node stands to its parent as the table allows, after every micro step.
 use Prim.Native.Nat.{ℕ, zero, suc, _<_}
-use mathlib.Core.Path.{_≡_, refl, sym, _∙_}
+use mathlib.Core.Path.{_≡_, refl, sym, ap, _∙_}
 use mathlib.Core.Logic.{_⊎_, inl, inr}
 use mathlib.Core.Bool.{true, false, false≢true}
 use lib.Dec.{eqb}
@@ -16,7 +16,7 @@ use Rattle.plexil.specs.Records.{isList, isAssignment}
 use Rattle.plexil.specs.Atomic.{isClosing, isOff, isResting, children, parentStatus, settled, byStatus, moveBy, moveOf}
 use Rattle.plexil.specs.Form.{isIdle, allowed}
 use Rattle.plexil.specs.Promises.{ParentTable}
-use Rattle.plexil.proofs.ListLaws.{tested, not-both, if-true, allBelow-at}
+use Rattle.plexil.proofs.ListLaws.{if-false, tested, not-both, if-true, allBelow-at}
 use Rattle.plexil.proofs.Admitted.{parent-below, parent-list}
 use Rattle.plexil.proofs.KeptState.{table-of}
 use Rattle.plexil.proofs.TestLaws.{given, other-number}
@@ -67,7 +67,7 @@ module _ (p : Image) (s : State) (i : ℕ) where
   still : (c u : Status) → isOff u ≡ false → same u Executing ≡ false → isIdle c ≡ true → landing c (moveBy c u p s i) ≡ c
   unfolding landing moveBy byStatus same statusCode every if_then_else_ isIdle some
   still Inactive u o n h = rw n
-  still Waiting u o n h = rw (o, n)
+  still Waiting u o n h = rw o (ap (landing Waiting) (if-false _ _ _ n))
   still Executing u o n h = absurd (false≢true h)
   still Finishing u o n h = absurd (false≢true h)
   still Failing u o n h = absurd (false≢true h)

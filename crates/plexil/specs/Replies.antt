@@ -61,15 +61,15 @@ takeNumber (take.NotAwaited k) = numbered 25 k
 takeNumber take.Accepted = numbered 0 0
 
 -- ---- check
--- what an admitted plan has
+-- the counts of a plan
 abbrev pub countsOf : Image → Counts
 countsOf p = record { nodes = nodeCount p; exprs = exprCount p; vars = varCount p; looks = lookCount p }
 
--- a refusal counts nothing
+-- no counts
 abbrev pub noCounts : Counts
 noCounts = record { nodes = 0; exprs = 0; vars = 0; looks = 0 }
 
--- the counts of an admitted plan
+-- an admitted plan's counts, or none
 unfoldable pub checkedBy : Verdict → Image → Checked
 checkedBy Admitted p = record { verdict = Admitted; counts = countsOf p }
 checkedBy (Refused r i) p = record { verdict = Refused r i; counts = noCounts }

@@ -11,7 +11,7 @@ use lib.Ieee.{Float, binary64, fits, ofBits, toBits}
 use lib.Ieee.Bits.{ofBits-toBits, ofBits-fits, toBits-ofBits}
 use mir.Syntax.{w64}
 use mir.ValLaws.{ofZ-toZ, toZ-fits}
-use Rattle.plexil.specs.Values.{inRange, intIn, finite, realIn, known, goodBits, decode, cell, encode}
+use Rattle.plexil.specs.Values.{inRange, finite, realIn, known, goodBits, decode, cell, encode}
 use Rattle.plexil.specs.declared.Worked.{Worked}
 use Rattle.plexil.specs.declared.Worked.the-variants as w
 use Rattle.plexil.proofs.ListLaws.{if-true, if-either}

@@ -10,7 +10,7 @@ use Rattle.visit.proofs.visit_node.Statement.{statement}
 use Rattle.visit.proofs.visit_node.Tie as tie
 
 move-of-requires : tie.Need-move-of-requires
-move-of-requires c κs = search needs
+move-of-requires c κs = (c .before .before .before .before .before .before .before .before .before .pre .3, c .before .before .before .before .before .before .before .before .before .pre .4)
 
 place-by-requires : tie.Need-place-by-requires
 place-by-requires c κs = search needs

@@ -1,4 +1,6 @@
 -- Two bytes.
+use Prim.Native.Nat.{ℕ, _+_, _*_}
+use mathlib.Core.Path.{ap₂, _∙_}
 use borrow.Author.Needs.{needs}
 use Rattle.plexil.specs.Bytes.{le16}
 use Rattle.image.proofs.bytes.two_within.Statement.{statement}
@@ -12,4 +14,4 @@ two-within-spec =
     (λ c. search needs)
     (λ c κs. search needs)
     (λ c κs. search needs)
-    (λ c. unfold le16 in search needs))
+    (λ c. unfold le16 in (c .join16 .ensures ∙ ap₂ (λ (low high : ℕ). low + 256 * high) (c .before .before .byte-within .ensures) (c .before .byte-within2 .ensures))))
