@@ -1,9 +1,11 @@
 // The check of a plan image: the lowest broken of the rules 1 to 12, with the lowest record that breaks it.
 mod depth;
 mod kinds;
+mod numbers;
 mod reach;
 mod rules;
 
+pub use numbers::rule_number;
 use plexil::Checked;
 use plexil::Counts;
 use plexil::Verdict;

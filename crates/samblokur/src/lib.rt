@@ -1,7 +1,6 @@
 // The library that a host links: check, fresh start, run and the taking of an event, each over memory that the host lends.
 mod calls;
 mod entries;
-mod numbers;
 mod reports;
 
 pub use entries::samblokur_check;

@@ -1,5 +1,5 @@
 // The report of each answer: its number, the record it names, and how the call ended.
-use super::numbers::rule_number;
+use admit::rule_number;
 use plexil::RunAnswer;
 use plexil::TakeAnswer;
 use plexil::Verdict;

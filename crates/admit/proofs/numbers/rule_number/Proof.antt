@@ -1,8 +1,8 @@
 -- Each rule by its arm.
 use borrow.Author.Needs.{needs}
 use Rattle.plexil.specs.Check.{ruleNumber}
-use Rattle.samblokur.proofs.numbers.rule_number.Statement.{statement}
-use Rattle.samblokur.proofs.numbers.rule_number.Tie as tie
+use Rattle.admit.proofs.numbers.rule_number.Statement.{statement}
+use Rattle.admit.proofs.numbers.rule_number.Tie as tie
 
 enum-told : tie.Need-enum-told
 enum-told c = search needs
