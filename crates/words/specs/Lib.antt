@@ -1,0 +1,4 @@
+pub mod Groups
+pub mod Capped
+pub mod Exact
+pub mod Viable
