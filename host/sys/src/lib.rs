@@ -4,6 +4,8 @@
 //! This is the only module of the workspace that says `unsafe`, and the only one that moves when the header
 //! does. Everything else speaks of an [`Executive`].
 
+pub mod text;
+
 use std::mem::{align_of, offset_of, size_of};
 
 /// What a plan keeps between calls: the paper's 256 node places, 128 variable cells and 64 lookup cells.

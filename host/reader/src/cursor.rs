@@ -1,0 +1,88 @@
+//! A walk over the tokens of a text, and what is said of a token that cannot stand.
+
+use crate::lead::{Lead, is_name, whole};
+use crate::outline::Span;
+use crate::token::{Next, next};
+
+/// The token that stands next; an empty one at the end.
+pub struct Cursor<'t> {
+    pub text: &'t [u8],
+    from: usize,
+    to: usize,
+    is_broken: bool,
+}
+
+/// 40: the length of the longest prefix that some text begins with, the token there, and what could have stood.
+#[derive(Debug)]
+pub struct Miss {
+    pub place: usize,
+    pub word: Span,
+    pub expected: Vec<Lead>,
+}
+
+impl<'t> Cursor<'t> {
+    pub fn new(text: &'t [u8]) -> Cursor<'t> {
+        let mut cursor = Cursor { text, from: 0, to: 0, is_broken: false };
+        cursor.advance();
+        cursor
+    }
+
+    pub fn token(&self) -> &'t [u8] {
+        &self.text[self.from..self.to]
+    }
+
+    pub fn span(&self) -> Span {
+        self.from..self.to
+    }
+
+    pub fn advance(&mut self) {
+        (self.from, self.to, self.is_broken) = match next(self.text, self.to) {
+            Next::Token(span) => (span.start, span.end, false),
+            Next::End => (self.text.len(), self.text.len(), false),
+            Next::Broken(place) => (place, place, true),
+        };
+    }
+
+    /// The token cannot stand, where these can.
+    pub fn miss(&self, expected: &[Lead]) -> Miss {
+        let reach = expected.iter().map(|lead| lead.reach(self.token())).max().unwrap_or(0);
+        Miss { place: self.from + reach, word: self.span(), expected: expected.to_vec() }
+    }
+
+    /// Nothing may follow.
+    pub fn end(&self) -> Result<(), Miss> {
+        match self.from == self.text.len() && !self.is_broken {
+            true => Ok(()),
+            false => Err(self.miss(&[])),
+        }
+    }
+
+    /// This word or sign.
+    pub fn the(&mut self, word: &'static str) -> Result<(), Miss> {
+        if self.token() != word.as_bytes() {
+            return Err(self.miss(&[Lead::The(word)]));
+        }
+        self.advance();
+        Ok(())
+    }
+
+    pub fn name(&mut self) -> Result<Span, Miss> {
+        self.name_or(&[Lead::Name])
+    }
+
+    /// A name, where these could stand too but do not.
+    pub fn name_or(&mut self, expected: &[Lead]) -> Result<Span, Miss> {
+        if !is_name(self.token()) {
+            return Err(self.miss(expected));
+        }
+        let span = self.span();
+        self.advance();
+        Ok(span)
+    }
+
+    pub fn whole(&mut self, most: u64) -> Result<u64, Miss> {
+        let value = whole(self.token(), most).ok_or_else(|| self.miss(&[Lead::UpTo(most)]))?;
+        self.advance();
+        Ok(value)
+    }
+}

@@ -1,0 +1,158 @@
+//! An independent reader of plans as text, written from docs/NOTATION.md: text into image bytes, with the names and
+//! text spans by which a tool speaks of them. The proved reader is tested and measured against it.
+
+mod build;
+mod cursor;
+mod formula;
+mod lead;
+mod outline;
+mod recognise;
+mod scope;
+mod token;
+
+pub use lead::Lead;
+pub use outline::Span;
+pub use scope::Space;
+
+use build::{build, counts, length};
+use outline::{Body, Outline};
+use plain::Plain;
+use samblokur_sys::text::{Reads, TextReport};
+use samblokur_sys::{Counts, Executive, Report};
+
+/// "levels of nodes: 16"
+const LEVELS: usize = 16;
+
+/// "nodes, entries, variables, lookups"
+const MOST: [usize; 4] = [256, 2048, 128, 64];
+
+/// The plain reader.
+#[derive(Clone, Copy, Debug)]
+pub struct PlainReader;
+
+/// A text that was read.
+#[derive(Clone, Debug)]
+pub struct Reading {
+    /// The plan image.
+    pub image: Vec<u8>,
+    /// Where its records stand in the text.
+    pub spans: Spans,
+}
+
+/// Where records stand in the text.
+#[derive(Clone, Debug, Default)]
+pub struct Spans {
+    /// The names of the declared commands, with their numbers.
+    pub commands: Vec<(Span, u16)>,
+    /// The names of the lookups.
+    pub lookups: Vec<Span>,
+    /// The names of the variables.
+    pub variables: Vec<Span>,
+    /// The names of the nodes; nothing for a node without one.
+    pub nodes: Vec<Option<Span>>,
+    /// For each node the declared command that it calls.
+    pub called: Vec<Option<usize>>,
+    /// The expressions that the entries stand for.
+    pub entries: Vec<Span>,
+}
+
+/// A refusal: the paper's number, its place in the text or its record, and what there is to say of it.
+#[derive(Clone, Debug)]
+pub struct Refused {
+    /// 40 to 43, 3, or another of 1 to 12.
+    pub number: u32,
+    /// A place in the text for 40 to 42, 0 for 3 and 43, else the record.
+    pub place: usize,
+    /// What there is to say of it.
+    pub why: Why,
+}
+
+/// What there is to say of a refusal.
+#[derive(Clone, Debug)]
+pub enum Why {
+    /// 40: the token that the place lies in or before, and what could have stood there.
+    Text(Span, Vec<Lead>),
+    /// 41: the name or brace of the node.
+    Level(Span),
+    /// 42: a name that is not declared.
+    Undeclared(Space, Span),
+    /// 42: a second declaration, and the first.
+    Twice(Space, Span, Span),
+    /// 3: the counts of nodes, entries, variables and lookups.
+    Count([usize; 4]),
+    /// 43: the length of the image.
+    Room(usize),
+    /// One of the check's: the image that it refuses.
+    Image(Box<Reading>),
+}
+
+/// Reads a text into an image of at most `room` bytes.
+///
+/// # Errors
+/// The first of docs/NOTATION.md's refusals that applies.
+pub fn read(text: &[u8], room: usize) -> Result<Reading, Refused> {
+    let outline = recognise::recognise(text)
+        .map_err(|miss| refused(40, miss.place, Why::Text(miss.word, miss.expected)))?;
+    if let Some(node) = outline.nodes.iter().find(|node| node.level > LEVELS) {
+        return Err(refused(41, node.begins.start, Why::Level(node.begins.clone())));
+    }
+    let meant = scope::resolve(text, &outline).map_err(|bad| {
+        let why = match bad.first {
+            Some(first) => Why::Twice(bad.space, bad.name.clone(), first),
+            None => Why::Undeclared(bad.space, bad.name.clone()),
+        };
+        refused(42, bad.name.start, why)
+    })?;
+    let counts = counts(&outline);
+    if counts.iter().zip(MOST).any(|(&count, most)| count > most) {
+        return Err(refused(3, 0, Why::Count(counts)));
+    }
+    if length(&outline) > room {
+        return Err(refused(43, 0, Why::Room(length(&outline))));
+    }
+    let built = build(&outline, &meant);
+    checked(Reading { spans: spans(&outline, &meant, built.entries), image: built.image })
+}
+
+fn refused(number: u32, place: usize, why: Why) -> Refused {
+    Refused { number, place, why }
+}
+
+/// The others of 1 to 12.
+fn checked(reading: Reading) -> Result<Reading, Refused> {
+    let (mut counts, mut report) = (Counts::default(), Report::default());
+    match Plain::check(&reading.image, &mut counts, &mut report) {
+        0 => Ok(reading),
+        number => Err(refused(number, report.record as usize, Why::Image(Box::new(reading)))),
+    }
+}
+
+fn spans(outline: &Outline, meant: &[usize], entries: Vec<Span>) -> Spans {
+    Spans {
+        commands: outline.commands.iter().map(|command| (command.name.clone(), command.number)).collect(),
+        lookups: outline.lookups.iter().map(|lookup| lookup.name.clone()).collect(),
+        variables: outline.variables.iter().map(|variable| variable.name.clone()).collect(),
+        nodes: outline.nodes.iter().map(|node| node.is_named.then(|| node.begins.clone())).collect(),
+        called: outline
+            .nodes
+            .iter()
+            .map(|node| match node.body {
+                Body::Command(command) => Some(meant[command]),
+                Body::List | Body::Assignment(..) => None,
+            })
+            .collect(),
+        entries,
+    }
+}
+
+impl Reads for PlainReader {
+    fn read(&self, text: &[u8], image: &mut [u8]) -> TextReport {
+        match read(text, image.len()) {
+            Ok(reading) => {
+                image[..reading.image.len()].copy_from_slice(&reading.image);
+                TextReport { number: 0, place: 0, length: reading.image.len() as u64 }
+            }
+            Err(refused) => TextReport { number: refused.number, place: refused.place as u64, length: 0 },
+        }
+    }
+}
