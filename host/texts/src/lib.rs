@@ -1,0 +1,24 @@
+//! Two readers of plans as text on the same texts: answers, places and every byte of the image buffer compared.
+//! The generator knows the image of each plan that it prints, so the answer to such a text is known by itself.
+
+mod damage;
+mod expr;
+mod image;
+mod known;
+mod make;
+mod pair;
+mod plan;
+mod print;
+mod spell;
+mod tally;
+mod tour;
+
+pub use pair::Difference;
+pub use tally::Tally;
+pub use tour::tour;
+
+/// The reader under test: the proved one, when its library is linked.
+pub const SUBJECT: reader::PlainReader = reader::PlainReader;
+
+/// The reader that it is held against.
+pub const MODEL: reader::PlainReader = reader::PlainReader;
