@@ -9,7 +9,8 @@ pub struct Cursor<'t> {
     pub text: &'t [u8],
     from: usize,
     to: usize,
-    is_broken: bool,
+    /// A comment that does not end, or a `/` that begins none.
+    broken: Option<Span>,
 }
 
 /// 40: the length of the longest prefix that some text begins with, the token there, and what could have stood.
@@ -18,11 +19,12 @@ pub struct Miss {
     pub place: usize,
     pub word: Span,
     pub expected: Vec<Lead>,
+    pub is_broken: bool,
 }
 
 impl<'t> Cursor<'t> {
     pub fn new(text: &'t [u8]) -> Cursor<'t> {
-        let mut cursor = Cursor { text, from: 0, to: 0, is_broken: false };
+        let mut cursor = Cursor { text, from: 0, to: 0, broken: None };
         cursor.advance();
         cursor
     }
@@ -36,22 +38,27 @@ impl<'t> Cursor<'t> {
     }
 
     pub fn advance(&mut self) {
-        (self.from, self.to, self.is_broken) = match next(self.text, self.to) {
-            Next::Token(span) => (span.start, span.end, false),
-            Next::End => (self.text.len(), self.text.len(), false),
-            Next::Broken(place) => (place, place, true),
+        (self.from, self.to) = match next(self.text, self.to) {
+            Next::Token(span) => (span.start, span.end),
+            Next::End => (self.text.len(), self.text.len()),
+            Next::Broken(span) => {
+                let place = span.end;
+                self.broken = Some(span);
+                (place, place)
+            }
         };
     }
 
     /// The token cannot stand, where these can.
     pub fn miss(&self, expected: &[Lead]) -> Miss {
         let reach = expected.iter().map(|lead| lead.reach(self.token())).max().unwrap_or(0);
-        Miss { place: self.from + reach, word: self.span(), expected: expected.to_vec() }
+        let word = self.broken.clone().unwrap_or(self.span());
+        Miss { place: self.from + reach, word, expected: expected.to_vec(), is_broken: self.broken.is_some() }
     }
 
     /// Nothing may follow.
     pub fn end(&self) -> Result<(), Miss> {
-        match self.from == self.text.len() && !self.is_broken {
+        match self.from == self.text.len() && self.broken.is_none() {
             true => Ok(()),
             false => Err(self.miss(&[])),
         }

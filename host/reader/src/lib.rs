@@ -5,14 +5,18 @@ mod build;
 mod cursor;
 mod formula;
 mod lead;
+mod names;
 mod outline;
 mod recognise;
 mod scope;
 mod token;
+mod write;
 
 pub use lead::Lead;
+pub use names::Names;
 pub use outline::Span;
 pub use scope::Space;
+pub use write::{Written, text_of};
 
 use build::{build, counts, length};
 use outline::{Body, Outline};
@@ -72,10 +76,12 @@ pub struct Refused {
 pub enum Why {
     /// 40: the token that the place lies in or before, and what could have stood there.
     Text(Span, Vec<Lead>),
+    /// 40: a comment that does not end, or a `/` that begins none.
+    Comment(Span),
     /// 41: the name or brace of the node.
     Level(Span),
-    /// 42: a name that is not declared.
-    Undeclared(Space, Span),
+    /// 42: a name that is not declared, and those that are.
+    Undeclared(Space, Span, Vec<Span>),
     /// 42: a second declaration, and the first.
     Twice(Space, Span, Span),
     /// 3: the counts of nodes, entries, variables and lookups.
@@ -91,15 +97,17 @@ pub enum Why {
 /// # Errors
 /// The first of docs/NOTATION.md's refusals that applies.
 pub fn read(text: &[u8], room: usize) -> Result<Reading, Refused> {
-    let outline = recognise::recognise(text)
-        .map_err(|miss| refused(40, miss.place, Why::Text(miss.word, miss.expected)))?;
+    let outline = recognise::recognise(text).map_err(|miss| match miss.is_broken {
+        true => refused(40, miss.place, Why::Comment(miss.word)),
+        false => refused(40, miss.place, Why::Text(miss.word, miss.expected)),
+    })?;
     if let Some(node) = outline.nodes.iter().find(|node| node.level > LEVELS) {
         return Err(refused(41, node.begins.start, Why::Level(node.begins.clone())));
     }
     let meant = scope::resolve(text, &outline).map_err(|bad| {
         let why = match bad.first {
             Some(first) => Why::Twice(bad.space, bad.name.clone(), first),
-            None => Why::Undeclared(bad.space, bad.name.clone()),
+            None => Why::Undeclared(bad.space, bad.name.clone(), declared(&outline, bad.space)),
         };
         refused(42, bad.name.start, why)
     })?;
@@ -116,6 +124,19 @@ pub fn read(text: &[u8], room: usize) -> Result<Reading, Refused> {
 
 fn refused(number: u32, place: usize, why: Why) -> Refused {
     Refused { number, place, why }
+}
+
+/// The names of a name space.
+fn declared(outline: &Outline, space: Space) -> Vec<Span> {
+    match space {
+        Space::Command => outline.commands.iter().map(|command| command.name.clone()).collect(),
+        Space::Lookup => outline.lookups.iter().map(|lookup| lookup.name.clone()).collect(),
+        Space::Variable => outline.variables.iter().map(|variable| variable.name.clone()).collect(),
+        Space::Node => {
+            let named = outline.nodes.iter().filter(|node| node.is_named);
+            named.map(|node| node.begins.clone()).collect()
+        }
+    }
 }
 
 /// The others of 1 to 12.

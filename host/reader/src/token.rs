@@ -7,8 +7,8 @@ pub enum Next {
     Token(Range<usize>),
     /// The text is at its end.
     End,
-    /// A `/` that begins no comment, or a comment that does not end: no text goes on beyond this place.
-    Broken(usize),
+    /// A `/` that begins no comment, or a comment that does not end: no text goes on beyond its end.
+    Broken(Range<usize>),
 }
 
 pub fn next(text: &[u8], from: usize) -> Next {
@@ -19,13 +19,13 @@ pub fn next(text: &[u8], from: usize) -> Next {
             [b' ' | b'\t' | b'\n' | b'\r', ..] => at += 1,
             [b'/', b'*', inside @ ..] => match inside.windows(2).position(|two| two == b"*/") {
                 Some(ends) => at += ends + 4,
-                None => return Next::Broken(text.len()),
+                None => return Next::Broken(at..text.len()),
             },
             [b'/', b'/', line @ ..] => match line.iter().position(|&byte| byte == b'\n') {
                 Some(ends) => at += ends + 3,
                 None => return Next::End,
             },
-            [b'/', ..] => return Next::Broken(at + 1),
+            [b'/', ..] => return Next::Broken(at..at + 1),
             rest => return Next::Token(at..at + length(rest)),
         }
     }

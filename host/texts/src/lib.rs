@@ -15,7 +15,7 @@ mod tour;
 
 pub use pair::Difference;
 pub use tally::Tally;
-pub use tour::tour;
+pub use tour::{accepted, tour};
 
 /// The reader under test: the proved one, when its library is linked.
 pub const SUBJECT: reader::PlainReader = reader::PlainReader;

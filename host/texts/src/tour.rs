@@ -31,6 +31,21 @@ pub fn tour(subject: &dyn Reads, model: &dyn Reads, seed: u64, texts: u64) -> Re
     Ok(pair.tally)
 }
 
+/// Texts of random plans that are accepted, with their images.
+pub fn accepted(seed: u64, count: usize) -> Vec<(Vec<u8>, Vec<u8>)> {
+    let mut random = Random::of(seed);
+    let mut texts = Vec::new();
+    while texts.len() < count {
+        let shape = shape(&mut random);
+        let plan = plan(&mut random, shape);
+        let tokens = tokens(&mut random, &plan);
+        if let Known::Image(image) = of_plan(&plan) {
+            texts.push((spell(&mut random, &tokens).text, image));
+        }
+    }
+    texts
+}
+
 fn shape(random: &mut Random) -> Shape {
     Shape {
         nodes: if random.chance(95) { 1 + random.below(8) } else { 1 + random.below(60) },
