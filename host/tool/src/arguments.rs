@@ -9,6 +9,7 @@ pub enum Request {
     Help(&'static str),
     Check { plan: String },
     Show { plan: String },
+    Read { plan: String, to: String },
     Run(Asked),
     Demo,
 }
@@ -29,10 +30,12 @@ pub fn read(arguments: &[String]) -> Result<Request, Trouble> {
         "--help" | "-h" | "help" => Ok(Request::Help(help::ALL)),
         "check" if wants_help => Ok(Request::Help(help::CHECK)),
         "show" if wants_help => Ok(Request::Help(help::SHOW)),
+        "read" if wants_help => Ok(Request::Help(help::READ)),
         "run" if wants_help => Ok(Request::Help(help::RUN)),
         "demo" if wants_help => Ok(Request::Help(help::DEMO)),
         "check" => only_plan(command, rest).map(|plan| Request::Check { plan }),
         "show" => only_plan(command, rest).map(|plan| Request::Show { plan }),
+        "read" => text_and_image(rest),
         "run" => asked(rest).map(Request::Run),
         "demo" if rest.is_empty() => Ok(Request::Demo),
         "demo" => Err(Trouble::Usage("`demo` takes no arguments".to_string())),
@@ -45,6 +48,15 @@ fn only_plan(command: &str, rest: &[String]) -> Result<String, Trouble> {
         [plan] if !plan.starts_with("--") => Ok(plan.clone()),
         _ => Err(Trouble::Usage(format!("`{command}` takes one plan file"))),
     }
+}
+
+fn text_and_image(rest: &[String]) -> Result<Request, Trouble> {
+    let (plan, to) = match rest {
+        [plan, option, to] if option == "-o" => (plan, to),
+        [option, to, plan] if option == "-o" => (plan, to),
+        _ => return Err(Trouble::Usage("`read` takes a text file, and -o with an image file".to_string())),
+    };
+    Ok(Request::Read { plan: plan.clone(), to: to.clone() })
 }
 
 fn asked(rest: &[String]) -> Result<Asked, Trouble> {

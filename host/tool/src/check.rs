@@ -1,13 +1,21 @@
 //! `check`: the verdict in words, with the record that breaks a rule shown readable.
 
-use crate::trouble::{Trouble, read_plan};
+use crate::source::load;
+use crate::trouble::Trouble;
 use crate::written::{contents, written};
 use samblokur::{Body, Condition, EntryId, NodeRecord, Plan, Records, Refusal};
 use std::fmt::{Display, Write};
 
 /// The verdict; the status is the refusal's number.
 pub fn check(file: &str, told: &mut String) -> Result<u8, Trouble> {
-    let image = read_plan(file)?;
+    let image = match load(file) {
+        Ok(source) => source.image,
+        Err(refused @ Trouble::Text { .. }) => {
+            let _ = writeln!(told, "{refused}");
+            return Ok(refused.status());
+        }
+        Err(trouble) => return Err(trouble),
+    };
     match Plan::open(&image) {
         Ok(plan) => {
             let _ = writeln!(told, "{file} is admitted: {}.", contents(&plan.records()));

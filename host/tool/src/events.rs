@@ -1,6 +1,7 @@
 //! The events file: text, one event a line.
 
 use crate::trouble::Trouble;
+use reader::Names;
 use samblokur::{EventBuilder, Kind, LookupId, NodeId, Records, Value};
 
 /// An event as it was read.
@@ -11,28 +12,31 @@ pub struct Event {
 }
 
 /// Reads a whole file. A value is read as the kind of its lookup.
-pub fn read(file: &str, text: &str, records: &Records) -> Result<Vec<Event>, Trouble> {
+pub fn read(file: &str, text: &str, records: &Records, names: &Names) -> Result<Vec<Event>, Trouble> {
     let mut events = Vec::new();
     for (line, raw) in (1..).zip(text.lines()) {
         let text = raw.split('#').next().unwrap_or("").trim();
         if text.is_empty() {
             continue;
         }
-        let builder =
-            event(text, records).map_err(|why| Trouble::Events { file: file.to_string(), line, why })?;
+        let builder = event(text, records, names).map_err(|why| Trouble::Events {
+            file: file.to_string(),
+            line,
+            why,
+        })?;
         events.push(Event { line, text: text.to_string(), builder });
     }
     Ok(events)
 }
 
-fn event(text: &str, records: &Records) -> Result<EventBuilder, String> {
+fn event(text: &str, records: &Records, names: &Names) -> Result<EventBuilder, String> {
     if text == "nothing" {
         return Ok(EventBuilder::new());
     }
-    text.split(';').try_fold(EventBuilder::new(), |event, part| entry(event, part.trim(), records))
+    text.split(';').try_fold(EventBuilder::new(), |event, part| entry(event, part.trim(), records, names))
 }
 
-fn entry(event: EventBuilder, text: &str, records: &Records) -> Result<EventBuilder, String> {
+fn entry(event: EventBuilder, text: &str, records: &Records, names: &Names) -> Result<EventBuilder, String> {
     let spaced = text.replace('=', " = ");
     let words: Vec<&str> = spaced.split_whitespace().collect();
     match words[..] {
@@ -41,10 +45,40 @@ fn entry(event: EventBuilder, text: &str, records: &Records) -> Result<EventBuil
             let lookup = LookupId(number(lookup, "lookup")?);
             Ok(event.value(lookup, constant(value, lookup, records)?))
         }
-        ["returned", node] => Ok(event.returned(NodeId(number(node, "node")?))),
+        [name, "=", value] => {
+            let lookup = names.lookup_named(name).ok_or_else(|| no_lookup(name, names))?;
+            Ok(event.value(lookup, constant(value, lookup, records)?))
+        }
+        ["returned", node] => Ok(event.returned(returned(node, records, names)?)),
+        [name, "unknown"] => {
+            Ok(event.unknown(names.lookup_named(name).ok_or_else(|| no_lookup(name, names))?))
+        }
         [] => Err("an entry is missing beside a semicolon".to_string()),
         _ => Err(format!(
-            "{} is no entry; one is `lookup 0 = true`, `lookup 1 unknown`, `returned 3` or `nothing`",
+            "{} is no entry; one is `lookup 0 = true`, `lookup 1 unknown`, `returned 3` or `nothing`, with names \
+             in the place of `lookup 0` and `3` where the plan is text",
+            quoted(text)
+        )),
+    }
+}
+
+fn no_lookup(name: &str, names: &Names) -> String {
+    match names.lookups.is_empty() {
+        true => format!("{} is no name of a lookup: the plan has none", quoted(name)),
+        false => format!("{} is no lookup; the plan has {}", quoted(name), names.lookups.join(", ")),
+    }
+}
+
+/// A node by its number, its name, or the end of its path.
+fn returned(text: &str, records: &Records, names: &Names) -> Result<NodeId, String> {
+    if text.bytes().next().is_some_and(|byte| byte.is_ascii_digit()) {
+        return number(text, "node").map(NodeId);
+    }
+    match names.nodes_named(text, records)[..] {
+        [node] => Ok(node),
+        [] => Err(format!("{} is no number or name of a node", quoted(text))),
+        [first, second, ..] => Err(format!(
+            "{} is the name of {first} and of {second}; write the number, or a path as `Room.{text}`",
             quoted(text)
         )),
     }

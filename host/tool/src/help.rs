@@ -3,12 +3,15 @@
 pub const ALL: &str = "\
 samblokur: a plan executive for PLEXIL over a proved library
 
-  samblokur check FILE    says whether a plan image is admitted, and why not
-  samblokur show FILE     shows a plan as a tree with its conditions written out
+  samblokur check FILE    says whether a plan is admitted, and why not
+  samblokur show FILE     writes a plan as text
   samblokur run FILE      runs a plan, with events from a file
+  samblokur read FILE -o IMAGE
+                          reads a plan's text into an image
   samblokur demo          tells the story of revisions B and AA
 
-Each command has --help. The exit status is 0, or the number of the refusal;
+A plan FILE is text in the notation of docs/NOTATION.md, or an image; which of
+the two shows in its first bytes. Each command has --help. The exit status is 0, or the number of the refusal;
 64 for a command line that is not understood, 65 for an events file that is
 not, 66 for a file that cannot be read, 73 for one that cannot be written.
 ";
@@ -16,22 +19,35 @@ not, 66 for a file that cannot be read, 73 for one that cannot be written.
 pub const CHECK: &str = "\
 samblokur check FILE
 
-Says whether the plan image in FILE is admitted. If it is refused, says by
-which rule, and shows the record that breaks it field by field. The exit
-status is the refusal's number, 1 to 12.
+Says whether the plan in FILE is admitted. If it is refused, says by which
+rule, and shows the place in the text, or the record of the image that breaks
+it field by field. The exit status is the refusal's number, 1 to 12 or 40 to
+43.
 ";
 
 pub const SHOW: &str = "\
 samblokur show FILE
 
-Shows the plan image in FILE: its lookups and variables, then its nodes as a
-tree, each with the conditions that it does not leave to their defaults.
+Writes the plan in FILE as text. An image has no names: its nodes are N0, N1
+and so on, its variables v0, its lookups l0, and c7 is the command of number 7.
+The text reads back into a plan that runs alike, and into the same bytes if
+the image was read from a text; it says so where it does not.
+";
+
+pub const READ: &str = "\
+samblokur read FILE -o IMAGE
+
+Reads the text in FILE into the plan image IMAGE, which a host can run. A text
+that is refused is shown with its line and a caret, and nothing is written; the
+exit status is the refusal's number: 40 not of the notation, 41 more than 16
+levels, 42 a name undeclared or declared twice, 3 too many nodes, expressions,
+variables or lookups, 9 and 11 a value of another kind, 10 too deep.
 ";
 
 pub const RUN: &str = "\
 samblokur run FILE [--events FILE] [--budget N] [--svg OUT]
 
-Starts the plan image in FILE afresh and runs it to quiet, then takes the
+Starts the plan in FILE afresh and runs it to quiet, then takes the
 events one by one and runs to quiet after each. For each turn it tells the
 count of micro steps, the commands issued and aborted, the statuses that each
 node went through, and the variables that changed.
@@ -54,6 +70,12 @@ an empty line is passed over. Entries:
   nothing               an event without entries; stands alone
 
 For example:  lookup 0 = true; returned 3   # the power is on, and the scanner is done
+
+Where the plan is text, names may stand for numbers:
+
+  humidity = 45.5; power unknown; returned Scan
+
+A node whose name another has too is named by its path, as returned Room.Scan.
 ";
 
 pub const DEMO: &str = "\

@@ -1,15 +1,20 @@
-//! `samblokur`: checks, shows and runs plan images from the command line.
+//! `samblokur`: reads, checks, shows and runs plans from the command line.
 
 mod arguments;
 mod check;
+mod complaint;
 mod demo;
 mod events;
 mod help;
+mod kinds;
 mod paint;
+mod read;
 mod run;
 mod show;
+mod source;
 mod svg;
 mod telling;
+mod text;
 mod trouble;
 mod turn;
 mod written;
@@ -29,7 +34,7 @@ fn main() -> ExitCode {
     match ending {
         Ok(status) => ExitCode::from(status),
         Err(trouble) => {
-            let _ = writeln!(std::io::stderr(), "samblokur: {trouble}");
+            let _ = writeln!(std::io::stderr(), "{trouble}");
             ExitCode::from(trouble.status())
         }
     }
@@ -41,6 +46,7 @@ fn answer(arguments: &[String], told: &mut String) -> Result<u8, Trouble> {
         Request::Help(text) => told.push_str(text),
         Request::Check { plan } => return check::check(&plan, told),
         Request::Show { plan } => show::show(&plan, told)?,
+        Request::Read { plan, to } => read::read(&plan, &to, told)?,
         Request::Run(asked) => run::run(&asked, told)?,
         Request::Demo => demo::demo(told)?,
     }

@@ -2,23 +2,25 @@
 
 use crate::arguments::Asked;
 use crate::events::{self, Event};
+use crate::source::load;
 use crate::svg::Picture;
 use crate::telling;
-use crate::trouble::{Trouble, read_plan, read_text};
+use crate::trouble::{Trouble, read_events};
 use crate::turn::turn;
+use reader::Names;
 use samblokur::{Plan, Session};
 use std::fs;
 use std::path::Path;
 
 pub fn run(asked: &Asked, told: &mut String) -> Result<(), Trouble> {
-    let image = read_plan(&asked.plan)?;
-    let plan = Plan::open(&image).map_err(Trouble::refused(&asked.plan))?;
+    let source = load(&asked.plan)?;
+    let (plan, names) = (Plan::open(&source.image).map_err(Trouble::refused(&asked.plan))?, &source.names);
     let events = match &asked.events {
-        Some(file) => events::read(file, &read_text(file)?, &plan.records())?,
+        Some(file) => events::read(file, &read_events(file)?, &plan.records(), names)?,
         None => Vec::new(),
     };
-    let mut picture = Picture::new(title(asked), plan);
-    let ending = turns(asked, plan, &events, &mut picture, told);
+    let mut picture = Picture::new(title(asked), plan, names);
+    let ending = turns(asked, (plan, names), &events, &mut picture, told);
     // A refused event ends the run; the picture shows what came before it.
     if let Some(file) = &asked.svg {
         fs::write(file, picture.svg()).map_err(|why| Trouble::Write { file: file.clone(), why })?;
@@ -35,7 +37,7 @@ fn title(asked: &Asked) -> String {
 
 fn turns(
     asked: &Asked,
-    plan: Plan,
+    (plan, names): (Plan, &Names),
     events: &[Event],
     picture: &mut Picture,
     told: &mut String,
@@ -46,10 +48,10 @@ fn turns(
     loop {
         let turn = turn(&mut session, cause, asked.budget)
             .map_err(Trouble::refused(format!("the run of {}", asked.plan)))?;
-        telling::tell(&turn, &session, told);
+        telling::tell(&turn, &session, names, told);
         picture.add(&turn, &session);
         let Some(event) = events.next() else {
-            telling::end(&session, told);
+            telling::end(&session, names, told);
             return Ok(());
         };
         let serial = session.next_serial();

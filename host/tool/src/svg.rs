@@ -3,6 +3,7 @@
 use crate::paint::{Mark, colour, escaped};
 use crate::telling::{changes, name, upshot};
 use crate::turn::{Step, Turn};
+use reader::Names;
 use samblokur::{NodeId, Outcome, Plan, Records, Session, Status, Word};
 use std::fmt::Write;
 
@@ -38,6 +39,7 @@ struct Column {
 pub struct Picture<'a> {
     title: String,
     records: Records<'a>,
+    names: &'a Names,
     nodes: u16,
     groups: Vec<Group>,
     upshots: Vec<String>,
@@ -47,10 +49,11 @@ pub struct Picture<'a> {
 }
 
 impl<'a> Picture<'a> {
-    pub fn new(title: String, plan: Plan<'a>) -> Picture<'a> {
+    pub fn new(title: String, plan: Plan<'a>, names: &'a Names) -> Picture<'a> {
         Picture {
             title,
             records: plan.records(),
+            names,
             nodes: plan.counts().nodes,
             groups: Vec::new(),
             upshots: Vec::new(),
@@ -73,7 +76,7 @@ impl<'a> Picture<'a> {
         if self.filled < MOST {
             let title = turn.cause.split(" (").next().unwrap_or("").to_string();
             let first = usize::from(!self.groups.is_empty());
-            self.groups.push(Group { title, note: note(turn, session), first, columns });
+            self.groups.push(Group { title, note: note(turn, session, self.names), first, columns });
         }
         self.filled += taken;
         self.left_out += turn.steps.len() - room;
@@ -101,7 +104,7 @@ impl<'a> Picture<'a> {
     }
 
     fn label_room(&self) -> usize {
-        let label = |node| INDENT * self.depth(node) + LETTER * name(&self.records, node).len();
+        let label = |node| INDENT * self.depth(node) + LETTER * name(&self.records, self.names, node).len();
         2 * MARGIN + (0..self.nodes).map(|node| label(NodeId(node))).max().unwrap_or(0)
     }
 
@@ -115,7 +118,11 @@ impl<'a> Picture<'a> {
     fn draw_labels(&self, body: &mut String, right: usize) {
         for (node, upshot) in (0..self.nodes).map(NodeId).zip(&self.upshots) {
             let (x, y) = (MARGIN + INDENT * self.depth(node), row(node.0) + 15);
-            let _ = writeln!(body, r#"<text x="{x}" y="{y}">{}</text>"#, escaped(&name(&self.records, node)));
+            let _ = writeln!(
+                body,
+                r#"<text x="{x}" y="{y}">{}</text>"#,
+                escaped(&name(&self.records, self.names, node))
+            );
             let ink = if upshot.starts_with(Outcome::Failure.word()) { "#b00020" } else { "#000" };
             let _ = writeln!(body, r#"<text x="{right}" y="{y}" fill="{ink}">{}</text>"#, escaped(upshot));
         }
@@ -124,7 +131,7 @@ impl<'a> Picture<'a> {
     fn draw_group(&self, body: &mut String, group: &Group, x: usize) {
         let _ = writeln!(body, r#"<text x="{x}" y="{}">{}</text>"#, TOP - 24, escaped(&group.title));
         for node in 0..self.nodes {
-            draw_row(body, group, node, x);
+            draw_row(body, group, (node, &self.names.node(NodeId(node))), x);
         }
         if group.columns.is_empty() {
             let _ =
@@ -182,8 +189,8 @@ fn came_of(session: &Session, node: NodeId) -> String {
 }
 
 /// What a turn was caused by, and the variables that it changed.
-fn note(turn: &Turn, session: &Session) -> Option<String> {
-    let told: Vec<String> = [turn.cause.clone()].into_iter().chain(changes(turn, session)).collect();
+fn note(turn: &Turn, session: &Session, names: &Names) -> Option<String> {
+    let told: Vec<String> = [turn.cause.clone()].into_iter().chain(changes(turn, session, names)).collect();
     (told.len() > 1 || turn.cause.contains('(')).then(|| told.join("; "))
 }
 
@@ -198,7 +205,7 @@ fn column(step: &Step) -> Column {
 }
 
 /// Neighbouring cells of one status are one box, so that long runs stay small.
-fn draw_row(body: &mut String, group: &Group, node: u16, x: usize) {
+fn draw_row(body: &mut String, group: &Group, (node, called): (u16, &str), x: usize) {
     let place = usize::from(node);
     let mut at = 0;
     for cells in group.columns.chunk_by(|a, b| a.statuses[place] == b.statuses[place]) {
@@ -208,7 +215,7 @@ fn draw_row(body: &mut String, group: &Group, node: u16, x: usize) {
         let word = Status::of(status).map_or("", Status::word);
         let _ = writeln!(
             body,
-            r#"<rect x="{left}" y="{y}" width="{wide}" height="{tall}" fill="{fill}"><title>node {node}: {word}</title></rect>"#
+            r#"<rect x="{left}" y="{y}" width="{wide}" height="{tall}" fill="{fill}"><title>{called}: {word}</title></rect>"#
         );
         at += cells.len();
     }

@@ -2,6 +2,7 @@
 
 use crate::turn::Turn;
 use crate::written::counted;
+use reader::Names;
 use samblokur::{Body, Ending, Failure, NodeId, Outcome, Records, Session, Status, VariableId, Word};
 use std::fmt::Write;
 
@@ -9,57 +10,57 @@ use std::fmt::Write;
 const MOST: usize = 10;
 
 /// Steps, words, the statuses that each node went through, and the variables that changed.
-pub fn tell(turn: &Turn, session: &Session, told: &mut String) {
+pub fn tell(turn: &Turn, session: &Session, names: &Names, told: &mut String) {
     let steps = counted(turn.steps.len() as u64, "step");
     let ending = match turn.ending {
         Ending::Quiet => "Quiet",
         Ending::Spent => "Spent (the budget is used and a rule still applies)",
     };
     let _ = writeln!(told, "{}: {steps}, {ending}", turn.cause);
-    words(turn, &session.plan().records(), told);
+    words(turn, &session.plan().records(), names, told);
     for node in (0..session.plan().counts().nodes).map(NodeId) {
-        statuses(turn, session, node, told);
+        statuses(turn, session, names, node, told);
     }
-    for change in changes(turn, session) {
+    for change in changes(turn, session, names) {
         let _ = writeln!(told, "  {change}");
     }
 }
 
 /// The variables that a turn changed.
-pub fn changes(turn: &Turn, session: &Session) -> Vec<String> {
+pub fn changes(turn: &Turn, session: &Session, names: &Names) -> Vec<String> {
     let earlier = Session::kept(session.plan(), turn.before.clone(), session.card());
     let change = |variable| {
         let (before, after) = (earlier.variable(variable)?, session.variable(variable)?);
-        (before != after).then(|| format!("{variable}: {before} → {after}"))
+        (before != after).then(|| format!("{}: {before} → {after}", names.variable(variable)))
     };
     (0..session.plan().counts().vars).map(VariableId).filter_map(change).collect()
 }
 
 /// Where the plan stands after its last turn.
-pub fn end(session: &Session, told: &mut String) {
-    let root = NodeId(0);
-    let status = session.status(root).map_or("?", Status::word);
-    let upshot = upshot(session, root);
+pub fn end(session: &Session, names: &Names, told: &mut String) {
+    let status = session.status(NodeId(0)).map_or("?", Status::word);
+    let (root, upshot) = (names.node(NodeId(0)), upshot(session, NodeId(0)));
     let _ = match upshot.is_empty() {
         true => writeln!(told, "at the end {root} is {status}"),
         false => writeln!(told, "at the end {root} is {status}: {upshot}"),
     };
 }
 
-fn words(turn: &Turn, records: &Records, told: &mut String) {
+fn words(turn: &Turn, records: &Records, names: &Names, told: &mut String) {
     for (number, step) in (1..).zip(&turn.steps) {
         for word in &step.words {
-            let what = records.node(word.node()).map_or(0, |record| record.what);
+            let node = word.node();
+            let command = names.command_of(node, records.node(node).map_or(0, |record| record.what));
             let done = match word {
                 Word::Issue(_) => "issued",
                 Word::Abort(_) => "aborted",
             };
-            let _ = writeln!(told, "  step {number}: {done} command {what} of {}", word.node());
+            let _ = writeln!(told, "  step {number}: {done} {command} of {}", names.node(node));
         }
     }
 }
 
-fn statuses(turn: &Turn, session: &Session, node: NodeId, told: &mut String) {
+fn statuses(turn: &Turn, session: &Session, names: &Names, node: NodeId, told: &mut String) {
     let first = turn.before.status[node.place()];
     let later = turn.steps.iter().filter_map(|step| step.statuses.get(node.place()).copied());
     let mut path = vec![first];
@@ -70,7 +71,7 @@ fn statuses(turn: &Turn, session: &Session, node: NodeId, told: &mut String) {
     }
     let upshot = Some(upshot(session, node)).filter(|upshot| !upshot.is_empty());
     let upshot = upshot.map_or(String::new(), |upshot| format!(" ({upshot})"));
-    let _ = writeln!(told, "  {node}: {}{upshot}", shortened(&path));
+    let _ = writeln!(told, "  {}: {}{upshot}", names.node(node), shortened(&path));
 }
 
 /// A long path keeps its first statuses and its last ones; what is left out is worth its words.
@@ -95,11 +96,12 @@ pub fn upshot(session: &Session, node: NodeId) -> String {
 }
 
 /// A short name of what a node is.
-pub fn name(records: &Records, node: NodeId) -> String {
-    let Some(record) = records.node(node) else { return node.to_string() };
+pub fn name(records: &Records, names: &Names, node: NodeId) -> String {
+    let called = names.node(node);
+    let Some(record) = records.node(node) else { return called };
     match record.body() {
-        Some(Body::List) => format!("{node}: list"),
-        Some(Body::Command) => format!("{node}: command {}", record.what),
-        _ => format!("{node}: sets variable {}", record.what),
+        Some(Body::List) => format!("{called}: list"),
+        Some(Body::Command) => format!("{called}: {}", names.command_of(node, record.what)),
+        _ => format!("{called}: sets {}", names.variable(VariableId(record.what))),
     }
 }

@@ -18,6 +18,8 @@ pub enum Trouble {
     Write { file: String, why: io::Error },
     /// The executive refuses.
     Refused { what: String, refusal: Refusal },
+    /// A plan's text is refused.
+    Text { number: u32, complaint: String },
 }
 
 impl Trouble {
@@ -33,6 +35,7 @@ impl Trouble {
             Trouble::Read { .. } => 66,
             Trouble::Write { .. } => 73,
             Trouble::Refused { refusal, .. } => u8::try_from(refusal.number()).unwrap_or(70),
+            Trouble::Text { number, .. } => u8::try_from(*number).unwrap_or(70),
         }
     }
 }
@@ -40,30 +43,40 @@ impl Trouble {
 impl fmt::Display for Trouble {
     fn fmt(&self, f: &mut fmt::Formatter<'_>) -> fmt::Result {
         match self {
-            Trouble::Usage(why) => write!(f, "{why}; see `samblokur --help`."),
-            Trouble::Events { file, line, why } => write!(f, "{file}, line {line}: {why}."),
-            Trouble::Read { file, why } => write!(f, "{file} cannot be read: {why}."),
-            Trouble::Write { file, why } => write!(f, "{file} cannot be written: {why}."),
+            Trouble::Usage(why) => write!(f, "samblokur: {why}; see `samblokur --help`."),
+            Trouble::Events { file, line, why } => write!(f, "samblokur: {file}, line {line}: {why}."),
+            Trouble::Read { file, why } => write!(f, "samblokur: {file} cannot be read: {why}."),
+            Trouble::Write { file, why } => write!(f, "samblokur: {file} cannot be written: {why}."),
+            // Editors know the form `file:line:column:`.
+            Trouble::Text { complaint, .. } => f.write_str(complaint),
             Trouble::Refused { what, refusal } => {
-                write!(f, "{what} is refused with {} {}: {refusal}.", refusal.number(), refusal.name())
+                write!(
+                    f,
+                    "samblokur: {what} is refused with {} {}: {refusal}.",
+                    refusal.number(),
+                    refusal.name()
+                )
             }
         }
     }
 }
 
-/// The bytes of a plan file, no further than shows that they are too many for 16-bit offsets.
-pub fn read_plan(file: &str) -> Result<Vec<u8>, Trouble> {
-    read(file, 65536).map_err(|why| Trouble::Read { file: file.to_string(), why })
-}
+/// Bytes that a file has at most: far more than any plan.
+const MOST: usize = 1 << 24;
 
-/// The text of a file of at most 16 MiB.
-pub fn read_text(file: &str) -> Result<String, Trouble> {
-    const MOST: usize = 1 << 24;
+/// The bytes of a plan file of at most 16 MiB.
+pub fn read_bytes(file: &str) -> Result<Vec<u8>, Trouble> {
     let bytes = read(file, MOST + 1).and_then(|bytes| match bytes.len() {
-        ..=MOST => String::from_utf8(bytes).map_err(|_| io::Error::other("it is not UTF-8 text")),
+        ..=MOST => Ok(bytes),
         _ => Err(io::Error::other("it is over 16 MiB")),
     });
     bytes.map_err(|why| Trouble::Read { file: file.to_string(), why })
+}
+
+/// The text of an events file.
+pub fn read_events(file: &str) -> Result<String, Trouble> {
+    let text = String::from_utf8(read_bytes(file)?).map_err(|_| io::Error::other("it is not UTF-8 text"));
+    text.map_err(|why| Trouble::Read { file: file.to_string(), why })
 }
 
 fn read(file: &str, most: usize) -> io::Result<Vec<u8>> {

@@ -42,9 +42,12 @@ fn verdicts() {
 }
 
 #[test]
-fn a_tree() {
+fn an_image_as_text() {
     let told = said(&["show", &example("plans/scan.plan")]);
-    assert!(told.contains("└── node 7: command 3\n            Start:  variable 1 = 3\n"), "{told}");
+    assert!(told.contains("N7: {\n                    StartCondition: v1 == 3;\n"), "{told}");
+    assert!(told.contains("// No text has this image's own bytes: an entry is shared.\n"), "{told}");
+    let told = said(&["show", &example("plans/sheets.plan")]);
+    assert!(!told.contains("own bytes"), "{told}");
 }
 
 #[test]
@@ -78,7 +81,7 @@ fn the_demo() {
 
 #[test]
 fn helps_and_mistakes() {
-    for command in ["check", "show", "run", "demo"] {
+    for command in ["check", "show", "run", "read", "demo"] {
         assert!(said(&[command, "--help"]).starts_with(&format!("samblokur {command}")));
     }
     assert_eq!(status(&["--help"]), 0);

@@ -1,0 +1,2 @@
+// K4: a childless list. 4 steps, Success.
+{ NodeList: { } }
