@@ -8,6 +8,7 @@ mod tower;
 
 use measure::Measure;
 use plain::Plain;
+use samblokur_sys::text::Reads;
 use samblokur_sys::{Executive, Library};
 use std::error::Error;
 use sum::Sum;
@@ -21,6 +22,7 @@ fn main() -> Result<(), Box<dyn Error>> {
     match &arguments[..] {
         [] => table(),
         [name, bytes] if name == stack::WITHIN => stack::within(bytes.parse()?),
+        [name, bytes] if name == stack::READING_WITHIN => stack::reading_within(bytes.parse()?),
         _ => Err("usage: bench".into()),
     }
 }
@@ -39,7 +41,17 @@ fn table() -> Result<(), Box<dyn Error>> {
         row(nodes, "check", || check::<Library>(&tower), || check::<Plain>(&tower));
     }
     entry_row(&Sum::new()?);
-    println!("stack of the deepest call: at most {} KB", stack::least()? / 1024);
+    for kilobytes in [1, 20, 200] {
+        let text = texts::sized(kilobytes * 1000);
+        row(
+            kilobytes,
+            "text read (KB instead of nodes)",
+            || reading(&texts::SUBJECT, &text),
+            || reading(&texts::MODEL, &text),
+        );
+    }
+    println!("stack of the deepest call: at most {} KB", stack::least(stack::WITHIN)? / 1024);
+    println!("stack of the deepest reading: at most {} KB", stack::least(stack::READING_WITHIN)? / 1024);
     Ok(())
 }
 
@@ -83,6 +95,14 @@ fn step<E: Executive>(tower: &Tower) -> Measure {
 
 fn check<E: Executive>(tower: &Tower) -> Measure {
     Measure::of(|| (0..10).map(|_| tower.check::<E>()).sum())
+}
+
+fn reading(reader: &dyn Reads, text: &[u8]) -> Measure {
+    let mut image = vec![0; 65536];
+    Measure::of(|| {
+        assert_eq!(reader.read(text, &mut image).number, 0, "a bench text is refused");
+        1
+    })
 }
 
 fn evaluation<E: Executive>(sum: &Sum, phase: u32) -> Measure {

@@ -1,22 +1,26 @@
-//! The stack of the deepest call: the smallest thread in which the four calls work on the deepest plan.
+//! The stack of the deepest call: the smallest thread in which the four calls work on the deepest plan; and that of
+//! reading the texts that ask most of it.
 
 use crate::sum::{RUNNING, Sum};
 use samblokur_sys::Library;
+use samblokur_sys::text::Reads;
 use std::error::Error;
 use std::process::{Command, Stdio};
 use std::thread;
 
 /// The argument by which this program calls itself; the thread's size in bytes follows.
 pub const WITHIN: &str = "--within";
+/// The same for reading.
+pub const READING_WITHIN: &str = "--reading-within";
 
 const KB: usize = 1024;
 
 /// A thread that is too small ends its process, so each size is tried in a process of its own.
-pub fn least() -> Result<usize, Box<dyn Error>> {
-    let (mut small, mut enough) = (0, 256 * KB);
+pub fn least(what: &str) -> Result<usize, Box<dyn Error>> {
+    let (mut small, mut enough) = (0, 1024 * KB);
     while enough - small > KB {
         let middle = (small + enough) / 2;
-        if works_within(middle)? {
+        if works_within(what, middle)? {
             enough = middle;
         } else {
             small = middle;
@@ -25,10 +29,10 @@ pub fn least() -> Result<usize, Box<dyn Error>> {
     Ok(enough)
 }
 
-fn works_within(bytes: usize) -> Result<bool, Box<dyn Error>> {
+fn works_within(what: &str, bytes: usize) -> Result<bool, Box<dyn Error>> {
     let mut again = Command::new(std::env::current_exe()?);
     let ended =
-        again.args([WITHIN, &bytes.to_string()]).stdout(Stdio::null()).stderr(Stdio::null()).status()?;
+        again.args([what, &bytes.to_string()]).stdout(Stdio::null()).stderr(Stdio::null()).status()?;
     Ok(ended.success())
 }
 
@@ -40,6 +44,19 @@ pub fn within(bytes: usize) -> Result<(), Box<dyn Error>> {
         sum.check::<Library>();
         sum.run::<Library>(&mut state, RUNNING);
         sum.take::<Library>(&mut state);
+    })?;
+    calls.join().map_err(|_| "the calls panicked")?;
+    Ok(())
+}
+
+/// The deepest texts in a thread of so many bytes.
+pub fn reading_within(bytes: usize) -> Result<(), Box<dyn Error>> {
+    let all = texts::deepest();
+    let mut image = vec![0; 65536];
+    let calls = thread::Builder::new().stack_size(bytes).spawn(move || {
+        for text in &all {
+            texts::SUBJECT.read(text, &mut image);
+        }
     })?;
     calls.join().map_err(|_| "the calls panicked")?;
     Ok(())

@@ -9,11 +9,13 @@ mod make;
 mod pair;
 mod plan;
 mod print;
+mod sized;
 mod spell;
 mod tally;
 mod tour;
 
 pub use pair::Difference;
+pub use sized::{deepest, sized};
 pub use tally::Tally;
 pub use tour::{accepted, tour};
 
