@@ -1,4 +1,7 @@
-//! The reader of plans as text, a library of its own: it runs at the desk, not in the cabinet.
+//! The C interface of include/samblokur_text.h as Rust sees it: the reader of plans as text, which runs at the desk,
+//! not in the cabinet.
+
+use std::mem::{offset_of, size_of};
 
 /// What reading a text answers.
 #[repr(C)]
@@ -11,6 +14,14 @@ pub struct TextReport {
     /// The length of the image; 0 on every refusal.
     pub length: u64,
 }
+
+// The layout that samblokur_text.h asserts on its side.
+const _: () = {
+    assert!(size_of::<TextReport>() == 24);
+    assert!(offset_of!(TextReport, number) == 0);
+    assert!(offset_of!(TextReport, place) == 8);
+    assert!(offset_of!(TextReport, length) == 16);
+};
 
 /// A reader: text into the image that is lent. Nothing is written on a refusal, nor ever beyond the image's length.
 pub trait Reads {

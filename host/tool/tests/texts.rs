@@ -87,6 +87,15 @@ fn the_stories_end_well() {
         ],
     );
     let events = |name: &str| example(&format!("events/{name}.events"));
+    let told = ran("sheet", Some(&events("sheet")));
+    tells(
+        &told,
+        &[
+            "event 0 (humidity = 45.5; returned Fetch): 2 steps, Quiet\n  step 2: issued command scan of Scan\n",
+            "current: 2 → 27",
+            "at the end Sheet is Finished: Success",
+        ],
+    );
     let told = ran("fetch-scan-stamp-mark", Some(&events("fetch-scan-stamp-mark")));
     tells(
         &told,
