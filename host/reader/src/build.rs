@@ -3,7 +3,7 @@
 //! It runs only when the counts are within the limits. A run of `(` is counted, so a call within a call is an
 //! operator or a NOT that is pending, and there are at most 2,048 of them.
 
-use crate::outline::{Body, Expression, Item, Operator, Outline, Question, Sort, Span};
+use crate::outline::{Body, Expression, Item, Node, Operator, Outline, Question, Sort, Span};
 
 /// A field that names nothing.
 const NONE: u16 = 65535;
@@ -45,7 +45,7 @@ pub fn build(outline: &Outline, meant: &[usize]) -> Built {
 }
 
 impl Builder<'_> {
-    fn node(&mut self, node: &crate::outline::Node) -> [u16; 12] {
+    fn node(&mut self, node: &Node) -> [u16; 12] {
         let mut record = [NONE; 12];
         record[0] = node.parent.map_or(NONE, |parent| parent as u16);
         record[2] = node.priority;

@@ -1,23 +1,11 @@
-//! Variables with their initial values, and expressions, as the grammar has them: flat, binding comes later.
+//! Expressions as the grammar has them: flat, binding comes later.
 
 use crate::cursor::Miss;
+use crate::initial::{BOOL, INT, INTEGER, NEGATIVE, REAL, integer, signed_real};
 use crate::lead::Lead::{self, Decimal, Name, The, UpTo};
-use crate::lead::{as_real, decimal, is_name, whole};
-use crate::outline::{Expression, Item, MentionId, Operator, Question, Sort, Span, Variable, What};
-use crate::recognise::{Parser, kind};
-
-const INTEGER: u64 = i64::MAX as u64;
-const NEGATIVE: u64 = INTEGER + 1;
-/// A whole number as a Real's initial value.
-const WHOLE_REAL: u64 = 999_999_999_999_999;
-/// The bits of the greatest finite Real.
-const FINITE: u64 = 9_218_868_437_227_405_311;
-/// A Real's bit of the sign.
-const SIGN: u64 = 1 << 63;
-
-const BOOL: u8 = 0;
-const INT: u8 = 1;
-const REAL: u8 = 2;
+use crate::lead::{decimal, is_name};
+use crate::outline::{Expression, Item, MentionId, Operator, Question, Sort, Span, What};
+use crate::parser::{Parser, kind};
 
 const STATES: [&str; 7] =
     ["INACTIVE", "WAITING", "EXECUTING", "FINISHING", "FAILING", "ITERATION_ENDED", "FINISHED"];
@@ -25,77 +13,6 @@ const OUTCOMES: [&str; 4] = ["NONE", "SUCCESS", "FAILURE", "SKIPPED"];
 const FAILURES: [&str; 6] = ["NONE", "PRE", "POST", "INVARIANT", "PARENT", "WRITE_LOST"];
 
 impl Parser<'_> {
-    /// Kind `:` `{` Variable* `}`
-    pub fn variables(&mut self, owner: usize, kind: u8) -> Result<(), Miss> {
-        self.cursor.advance();
-        self.cursor.the(":")?;
-        self.cursor.the("{")?;
-        while self.cursor.token() != b"}" {
-            let name = self.cursor.name_or(&[The("}"), Name])?;
-            self.mention(name.clone(), What::Variable(self.outline.variables.len()));
-            let initial = match self.cursor.token() {
-                b"=" => self.initial(kind)?,
-                b";" => None,
-                _ => return Err(self.cursor.miss(&[The(";"), The("=")])),
-            };
-            self.cursor.the(";")?;
-            self.outline.variables.push(Variable { name, kind, owner, initial });
-        }
-        self.cursor.advance();
-        Ok(())
-    }
-
-    /// `=` Value
-    fn initial(&mut self, kind: u8) -> Result<Option<u64>, Miss> {
-        self.cursor.advance();
-        let token = self.cursor.token();
-        let value = match (kind, token) {
-            (_, b"UNKNOWN") => None,
-            (BOOL, b"true") => Some(1),
-            (BOOL, b"false") => Some(0),
-            (BOOL, _) => return Err(self.cursor.miss(&[The("UNKNOWN"), The("true"), The("false")])),
-            (_, b"-") => {
-                self.cursor.advance();
-                return self.initial_number(kind, true).map(Some);
-            }
-            _ => return self.initial_number(kind, false).map(Some),
-        };
-        self.cursor.advance();
-        Ok(value)
-    }
-
-    fn initial_number(&mut self, kind: u8, negative: bool) -> Result<u64, Miss> {
-        let token = self.cursor.token();
-        if kind == REAL && token == b"RealBits" {
-            return self.bits(negative).map(|(bits, _)| bits);
-        }
-        let value = match kind {
-            INT => integer(token, negative),
-            _ => decimal(token)
-                .or_else(|| whole(token, WHOLE_REAL).and_then(|_| as_real(token)))
-                .map(|real| signed_real(real, negative)),
-        };
-        let number: &[Lead] = match (kind, negative) {
-            (INT, false) => &[The("UNKNOWN"), UpTo(INTEGER), The("-")],
-            (INT, true) => &[UpTo(NEGATIVE)],
-            (_, false) => &[The("UNKNOWN"), Decimal, UpTo(WHOLE_REAL), The("RealBits"), The("-")],
-            (_, true) => &[Decimal, UpTo(WHOLE_REAL), The("RealBits")],
-        };
-        let value = value.ok_or_else(|| self.cursor.miss(number))?;
-        self.cursor.advance();
-        Ok(value)
-    }
-
-    /// `RealBits` `(` 0..9218868437227405311 `)`, and where it ends.
-    fn bits(&mut self, negative: bool) -> Result<(u64, usize), Miss> {
-        self.cursor.advance();
-        self.cursor.the("(")?;
-        let bits = self.cursor.whole(FINITE)?;
-        let ends = self.cursor.span().end;
-        self.cursor.the(")")?;
-        Ok((if negative { bits | SIGN } else { bits }, ends))
-    }
-
     /// Operand (Operator Operand)* `;`
     pub fn expression(&mut self, node: usize) -> Result<Expression, Miss> {
         let from = self.outline.items.len();
@@ -265,18 +182,6 @@ impl Parser<'_> {
 }
 
 const PROPERTIES: [Lead; 5] = [The("state"), The("outcome"), The("failure"), The("failureType"), Name];
-
-/// A whole number as two's complement.
-fn integer(token: &[u8], negative: bool) -> Option<u64> {
-    match negative {
-        false => whole(token, INTEGER),
-        true => whole(token, NEGATIVE).map(u64::wrapping_neg),
-    }
-}
-
-fn signed_real(real: f64, negative: bool) -> u64 {
-    if negative { real.to_bits() | SIGN } else { real.to_bits() }
-}
 
 /// What can begin an operand, or follow its `-`.
 fn number_leads(negative: bool) -> Vec<Lead> {

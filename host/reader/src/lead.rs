@@ -100,54 +100,56 @@ pub fn as_real(token: &[u8]) -> Option<f64> {
 }
 
 fn is_reserved(word: &[u8]) -> bool {
-    matches!(
-        word,
-        b"Command"
-            | b"Lookup"
-            | b"Boolean"
-            | b"Integer"
-            | b"Real"
-            | b"RealBits"
-            | b"NodeList"
-            | b"Assignment"
-            | b"Priority"
-            | b"SkipCondition"
-            | b"StartCondition"
-            | b"PreCondition"
-            | b"InvariantCondition"
-            | b"EndCondition"
-            | b"PostCondition"
-            | b"RepeatCondition"
-            | b"RepeatUntilCondition"
-            | b"ExitCondition"
-            | b"NOT"
-            | b"AND"
-            | b"OR"
-            | b"true"
-            | b"false"
-            | b"UNKNOWN"
-            | b"LookupNow"
-            | b"LookupOnChange"
-            | b"state"
-            | b"outcome"
-            | b"failure"
-            | b"failureType"
-            | b"INACTIVE"
-            | b"WAITING"
-            | b"EXECUTING"
-            | b"FINISHING"
-            | b"FAILING"
-            | b"ITERATION_ENDED"
-            | b"FINISHED"
-            | b"NONE"
-            | b"SUCCESS"
-            | b"FAILURE"
-            | b"SKIPPED"
-            | b"INTERRUPTED"
-            | b"PRE"
-            | b"POST"
-            | b"INVARIANT"
-            | b"PARENT"
-            | b"WRITE_LOST"
-    )
+    RESERVED.binary_search_by(|reserved| reserved.as_bytes().cmp(word)).is_ok()
 }
+
+/// The reserved words, in the order of their bytes.
+const RESERVED: [&str; 47] = [
+    "AND",
+    "Assignment",
+    "Boolean",
+    "Command",
+    "EXECUTING",
+    "EndCondition",
+    "ExitCondition",
+    "FAILING",
+    "FAILURE",
+    "FINISHED",
+    "FINISHING",
+    "INACTIVE",
+    "INTERRUPTED",
+    "INVARIANT",
+    "ITERATION_ENDED",
+    "Integer",
+    "InvariantCondition",
+    "Lookup",
+    "LookupNow",
+    "LookupOnChange",
+    "NONE",
+    "NOT",
+    "NodeList",
+    "OR",
+    "PARENT",
+    "POST",
+    "PRE",
+    "PostCondition",
+    "PreCondition",
+    "Priority",
+    "Real",
+    "RealBits",
+    "RepeatCondition",
+    "RepeatUntilCondition",
+    "SKIPPED",
+    "SUCCESS",
+    "SkipCondition",
+    "StartCondition",
+    "UNKNOWN",
+    "WAITING",
+    "WRITE_LOST",
+    "failure",
+    "failureType",
+    "false",
+    "outcome",
+    "state",
+    "true",
+];

@@ -1,6 +1,7 @@
 //! The names by which a plan's records are called; numbers where there are none.
 
-use crate::Spans;
+use crate::outline::Span;
+use crate::reading::Spans;
 use samblokur::{Body, LookupId, NodeId, Records, VariableId};
 
 /// Names of a plan's records.
@@ -21,7 +22,7 @@ pub struct Names {
 impl Names {
     /// The names that a text has.
     pub fn of(text: &[u8], spans: &Spans) -> Names {
-        let name = |span: &crate::Span| String::from_utf8_lossy(&text[span.clone()]).into_owned();
+        let name = |span: &Span| String::from_utf8_lossy(&text[span.clone()]).into_owned();
         Names {
             commands: spans.commands.iter().map(|(span, number)| (name(span), *number)).collect(),
             lookups: spans.lookups.iter().map(name).collect(),

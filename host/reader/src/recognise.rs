@@ -1,22 +1,18 @@
 //! The text against the grammar: its outline, or 40. One loop over nodes and one over an expression's tokens, so
 //! that no text is too deep.
 
-use crate::cursor::{Cursor, Miss};
+use crate::cursor::Miss;
 use crate::lead::Lead::{self, Name, The};
-use crate::outline::{Body, Command, Lookup, Mention, MentionId, Node, Outline, Span, What};
+use crate::outline::{Body, Command, Lookup, Node, Outline, What};
+use crate::parser::{Parser, kind};
 
 /// The outline of a text of the grammar.
 pub fn recognise(text: &[u8]) -> Result<Outline, Miss> {
-    let mut parser = Parser { cursor: Cursor::new(text), outline: Outline::default() };
+    let mut parser = Parser::new(text);
     parser.declarations()?;
     parser.tree()?;
     parser.cursor.end()?;
     Ok(parser.outline)
-}
-
-pub struct Parser<'t> {
-    pub cursor: Cursor<'t>,
-    pub outline: Outline,
 }
 
 /// The place of the priority among the attributes that a node has.
@@ -34,11 +30,6 @@ const CONDITIONS: [(&str, usize); 8] = [
 ];
 
 impl Parser<'_> {
-    pub fn mention(&mut self, name: Span, what: What) -> MentionId {
-        self.outline.mentions.push(Mention { name, what });
-        self.outline.mentions.len() - 1
-    }
-
     fn declarations(&mut self) -> Result<(), Miss> {
         loop {
             match self.cursor.token() {
@@ -195,14 +186,4 @@ fn attribute_leads(met: &[bool; 8]) -> Vec<Lead> {
 
 fn condition(token: &[u8]) -> Option<usize> {
     CONDITIONS.iter().find(|(word, _)| word.as_bytes() == token).map(|&(_, number)| number)
-}
-
-/// The number of a kind's word.
-pub fn kind(token: &[u8]) -> Option<u8> {
-    match token {
-        b"Boolean" => Some(0),
-        b"Integer" => Some(1),
-        b"Real" => Some(2),
-        _ => None,
-    }
 }

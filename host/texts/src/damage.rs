@@ -46,17 +46,32 @@ const OTHERS: [&str; 40] = [
     "@",
 ];
 
-/// The tokens with one dropped, doubled or exchanged.
-pub fn tokens(random: &mut Random, tokens: &[String], at: usize) -> Vec<String> {
+/// What is done to a token.
+#[derive(Clone, Copy)]
+pub enum Damage {
+    Dropped,
+    Doubled,
+    /// With another token of the text.
+    Exchanged,
+    /// By a token of any sort.
+    Replaced,
+}
+
+impl Damage {
+    pub const ALL: [Damage; 4] = [Damage::Dropped, Damage::Doubled, Damage::Exchanged, Damage::Replaced];
+}
+
+/// The tokens with one of them damaged.
+pub fn tokens(random: &mut Random, tokens: &[String], at: usize, damage: Damage) -> Vec<String> {
     let mut tokens = tokens.to_vec();
-    match random.below(4) {
-        0 => drop(tokens.remove(at)),
-        1 => tokens.insert(at, tokens[at].clone()),
-        2 => {
+    match damage {
+        Damage::Dropped => drop(tokens.remove(at)),
+        Damage::Doubled => tokens.insert(at, tokens[at].clone()),
+        Damage::Exchanged => {
             let other = random.below(tokens.len());
             tokens.swap(at, other);
         }
-        _ => tokens[at] = random.pick(&OTHERS).to_string(),
+        Damage::Replaced => tokens[at] = random.pick(&OTHERS).to_string(),
     }
     tokens
 }

@@ -1,7 +1,8 @@
 //! A plan as tokens, with redundant parentheses here and there.
 
 use crate::expr::{Expr, strength};
-use crate::plan::{Attribute, BOOL, Body, INT, Plan, Variable};
+use crate::numbers::{constant, whole_real, zeros};
+use crate::plan::{Attribute, Body, INT, Plan, Variable};
 use differ::Random;
 
 const CONDITIONS: [&str; 7] = [
@@ -180,50 +181,4 @@ impl Printer<'_> {
 
 fn kind_word(kind: u8) -> &'static str {
     ["Boolean", "Integer", "Real"][usize::from(kind)]
-}
-
-/// A whole number, sometimes with zeros before it.
-fn zeros(random: &mut Random, number: u64) -> String {
-    let zeros = if random.chance(5) { random.below(30) } else { 0 };
-    format!("{}{number}", "0".repeat(zeros))
-}
-
-/// A constant's tokens.
-fn constant(random: &mut Random, kind: u8, bits: u64) -> Vec<String> {
-    match kind {
-        BOOL => vec![if bits == 1 { "true" } else { "false" }.to_string()],
-        INT => {
-            let value = bits.cast_signed();
-            let digits = zeros(random, value.unsigned_abs());
-            let minus = value < 0 || (value == 0 && random.chance(20));
-            signed(minus, vec![digits])
-        }
-        _ => {
-            let (minus, size) = (bits >> 63 == 1, bits & !(1 << 63));
-            let decimal = decimal(f64::from_bits(size)).filter(|_| random.chance(80));
-            let exact = || ["RealBits", "(", &size.to_string(), ")"].map(str::to_string).to_vec();
-            signed(minus, decimal.map_or_else(exact, |digits| vec![digits]))
-        }
-    }
-}
-
-fn signed(minus: bool, mut tokens: Vec<String>) -> Vec<String> {
-    if minus {
-        tokens.insert(0, "-".to_string());
-    }
-    tokens
-}
-
-/// A decimal of at most 15 digits that is this Real.
-fn decimal(size: f64) -> Option<String> {
-    let text = format!("{size:?}");
-    let digits = text.bytes().filter(u8::is_ascii_digit).count();
-    (!text.contains('e') && digits <= 15).then_some(text)
-}
-
-/// A whole number that is this Real, as an initial value may have it.
-fn whole_real(bits: u64) -> Option<Vec<String>> {
-    let (minus, size) = (bits >> 63 == 1, f64::from_bits(bits & !(1 << 63)));
-    let is_whole = size <= 999_999_999_999_999.0 && size.fract() == 0.0;
-    is_whole.then(|| signed(minus, vec![format!("{size:.0}")]))
 }

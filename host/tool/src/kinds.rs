@@ -1,6 +1,6 @@
 //! The check's refusals of a text's image, told at their place in the text: kinds (9, 11) and depth (10).
 
-use crate::complaint::{Said, quoted};
+use crate::said::{Said, quoted};
 use reader::{Reading, Refused, Span};
 use samblokur::{Body, Condition, EntryId, ExpressionRecord, Kind, NodeId, Operator, Records, VariableId};
 

@@ -10,6 +10,7 @@ mod kinds;
 mod paint;
 mod read;
 mod run;
+mod said;
 mod show;
 mod source;
 mod svg;

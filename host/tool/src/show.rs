@@ -25,6 +25,12 @@ pub fn show(file: &str, told: &mut String) -> Result<(), Trouble> {
 
 /// What a reader of the text must know, if it does not read back into the same bytes.
 fn about(written: &Written, image: &[u8]) -> Vec<String> {
+    if written.is_cut {
+        let so_far = "What is not written stands as ?.";
+        return vec![format!(
+            "No text has this image: its shared entries are too many to be written out. {so_far}"
+        )];
+    }
     let remarks = written.remarks.join(", ");
     match read_text(written.text.as_bytes()) {
         Ok(reading) if reading.image == image => Vec::new(),

@@ -1,6 +1,7 @@
 //! The tool on plans as text: the example texts' ends, what is said of a text that is refused, and the way from text
 //! to image and back.
 
+use samblokur::{Condition, NodeId, PlanBuilder};
 use std::fs;
 use std::path::{Path, PathBuf};
 use std::process::{Command, Output};
@@ -260,4 +261,45 @@ fn no_text_makes_it_panic() {
             }
         }
     }
+}
+
+/// What `show` says of an image before the text.
+fn remarks(plan: &PlanBuilder) -> String {
+    let told = said(&["show", &scratch("shared.plan", &plan.image().expect("a small plan"))]);
+    told.lines().filter(|line| line.starts_with("//")).skip(1).collect::<Vec<_>>().join("\n")
+}
+
+/// Lists below each other, each with a condition on sums of sums of one entry.
+fn sums(lists: u16, conditions: &[Condition]) -> PlanBuilder {
+    let mut plan = PlanBuilder::new();
+    plan.add_list(None);
+    let mut sum = plan.constant(1);
+    for _ in 0..10 {
+        sum = plan.add(sum, sum);
+    }
+    let equal = plan.eq(sum, sum);
+    for list in 0..lists {
+        if list > 0 {
+            plan.add_list(NodeId(list - 1));
+        }
+        for &condition in conditions {
+            plan.condition(NodeId(list), condition, equal);
+        }
+    }
+    plan
+}
+
+#[test]
+fn images_without_a_text_say_so() {
+    assert!(remarks(&sums(1, &[Condition::Pre])).ends_with("written out, it is refused with 3 Count."));
+    assert!(remarks(&sums(9, Condition::ALL)).contains("too many to be written out"));
+    assert!(
+        remarks(&sums(17, &[])).contains("(an entry is unused): written out, it is refused with 41 Level.")
+    );
+    let mut plan = PlanBuilder::new();
+    plan.add_list(None);
+    plan.add_list(NodeId(0));
+    plan.add_command(NodeId(0), 3);
+    plan.add_command(NodeId(1), 4);
+    assert!(remarks(&plan).contains("No text has this image's own bytes: the nodes are out of text order."));
 }
