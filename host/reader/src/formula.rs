@@ -171,8 +171,8 @@ impl Parser<'_> {
         };
         self.cursor.advance();
         let code = words.iter().position(|word| word.as_bytes() == self.cursor.token());
-        let leads: Vec<Lead> = words.iter().map(|word| The(word)).collect();
-        let code = code.ok_or_else(|| self.cursor.miss(&leads))? as u16;
+        let leads = || words.iter().map(|word| The(word)).collect::<Vec<_>>();
+        let code = code.ok_or_else(|| self.cursor.miss(&leads()))? as u16;
         self.outline.entries += usize::from(is_negated);
         let ends = self.cursor.span().end;
         self.cursor.advance();

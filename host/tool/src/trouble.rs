@@ -73,10 +73,11 @@ pub fn read_bytes(file: &str) -> Result<Vec<u8>, Trouble> {
     bytes.map_err(|why| Trouble::Read { file: file.to_string(), why })
 }
 
-/// The text of an events file.
+/// The text of an events file, without a byte order mark.
 pub fn read_events(file: &str) -> Result<String, Trouble> {
     let text = String::from_utf8(read_bytes(file)?).map_err(|_| io::Error::other("it is not UTF-8 text"));
-    text.map_err(|why| Trouble::Read { file: file.to_string(), why })
+    let text = text.map_err(|why| Trouble::Read { file: file.to_string(), why })?;
+    Ok(text.trim_start_matches('\u{FEFF}').to_string())
 }
 
 fn read(file: &str, most: usize) -> io::Result<Vec<u8>> {
