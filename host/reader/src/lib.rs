@@ -20,7 +20,7 @@ mod writer;
 pub use lead::Lead;
 pub use names::Names;
 pub use outline::Span;
-pub use reading::{Reading, Refused, Spans, Why};
+pub use reading::{Reading, Refused, Spans, Undeclared, Why};
 pub use scope::Space;
 pub use write::{Written, text_of};
 
@@ -55,7 +55,7 @@ pub fn read(text: &[u8], room: usize) -> Result<Reading, Refused> {
     let meant = scope::resolve(text, &outline).map_err(|bad| {
         let why = match bad.first {
             Some(first) => Why::Twice(bad.space, bad.name.clone(), first),
-            None => Why::Undeclared(bad.space, bad.name.clone(), declared(&outline, bad.space)),
+            None => Why::Undeclared(undeclared(text, &outline, bad.space, bad.name.clone())),
         };
         refused(42, bad.name.start, why)
     })?;
@@ -72,6 +72,13 @@ pub fn read(text: &[u8], room: usize) -> Result<Reading, Refused> {
 
 fn refused(number: u32, place: usize, why: Why) -> Refused {
     Refused { number, place, why }
+}
+
+fn undeclared(text: &[u8], outline: &Outline, space: Space, name: Span) -> Undeclared {
+    let is_it = |other: &Span| text[other.clone()] == text[name.clone()];
+    let others = Space::ALL.into_iter().filter(|&other| other != space);
+    let elsewhere = others.filter(|&other| declared(outline, other).iter().any(is_it)).collect();
+    Undeclared { space, declared: declared(outline, space), elsewhere, name }
 }
 
 /// The names of a name space.

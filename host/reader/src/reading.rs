@@ -50,8 +50,8 @@ pub enum Why {
     Comment(Span),
     /// 41: the name or brace of the node.
     Level(Span),
-    /// 42: a name that is not declared, and those that are.
-    Undeclared(Space, Span, Vec<Span>),
+    /// 42: a name that is not declared.
+    Undeclared(Undeclared),
     /// 42: a second declaration, and the first.
     Twice(Space, Span, Span),
     /// 3: the counts of nodes, entries, variables and lookups.
@@ -60,4 +60,17 @@ pub enum Why {
     Room(usize),
     /// One of the check's: the image that it refuses.
     Image(Box<Reading>),
+}
+
+/// A name that its name space does not declare.
+#[derive(Clone, Debug)]
+pub struct Undeclared {
+    /// The name space.
+    pub space: Space,
+    /// The name.
+    pub name: Span,
+    /// The names that are declared in the name space.
+    pub declared: Vec<Span>,
+    /// Other name spaces that declare it.
+    pub elsewhere: Vec<Space>,
 }

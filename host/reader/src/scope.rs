@@ -17,6 +17,11 @@ pub enum Space {
     Node,
 }
 
+impl Space {
+    /// All of them.
+    pub const ALL: [Space; 4] = [Space::Command, Space::Lookup, Space::Variable, Space::Node];
+}
+
 /// 42: a name, and where its first declaration is if it is a second one.
 #[derive(Debug)]
 pub struct BadName {

@@ -1,27 +1,28 @@
-//! Texts of a given size, as a practice would write them: a comment, a condition and an assignment for each node.
+//! Texts of a given size, as a practice would write them, with comments and with more parentheses than are needed.
 
 use std::fmt::Write;
 
-/// An accepted text of at least so many bytes and hardly more, up to 200 KB.
+/// An accepted text of about so many bytes, up to 200 KB: as many nodes as the entries allow, then longer ones.
 pub fn sized(bytes: usize) -> Vec<u8> {
-    let nodes = (bytes / 250).clamp(3, 180);
+    let nodes = (bytes / 330).clamp(3, 180);
     let each = bytes / nodes;
     let mut text =
         String::from("Command fetch = 1;\nReal Lookup humidity;\nInteger Lookup revision;\n\nStore: {\n");
-    text.push_str("    Integer: { current = 0; tries = 0; }\n    NodeList: {\n");
+    text.push_str("    Integer: { current = 0; tries_of_the_scanner = 0; }\n    NodeList: {\n");
+    let pairs = each / 24;
+    let (open, close) = ("( ".repeat(pairs), " )".repeat(pairs));
     for number in 0..nodes {
         let from = text.len();
         let _ = writeln!(text, "        // Sheet {number} is marked as current once the air is dry.");
-        let _ = writeln!(text, "        Mark_{number}: {{");
-        let _ = writeln!(
-            text,
-            "            StartCondition: (LookupNow(humidity) <= 60.5) AND NOT tries > {number};"
-        );
-        let _ = writeln!(text, "            Priority: {number}; Assignment: current = tries + {number};");
-        while text.len() + 90 < from + each {
+        let _ = writeln!(text, "        Mark_the_sheet_{number}: {{");
+        let dry = format!("{open}LookupNow(humidity) <= 60.5{close}");
+        let _ = writeln!(text, "            StartCondition: {dry} AND NOT tries_of_the_scanner > {number};");
+        let _ = writeln!(text, "            Priority: {number};");
+        while text.len() + 160 < from + each {
             let _ = writeln!(text, "            /* {} */", "a word on this sheet ".repeat(3));
         }
-        text.push_str("        }\n");
+        let _ =
+            writeln!(text, "            Assignment: current = tries_of_the_scanner + {number};\n        }}");
     }
     text.push_str("    }\n}\n");
     text.into_bytes()

@@ -3,7 +3,7 @@
 
 use reader::{Names, read, text_of};
 use samblokur::Records;
-use texts::accepted;
+use texts::{accepted, sized};
 
 #[test]
 fn images_come_back() {
@@ -21,5 +21,14 @@ fn images_come_back() {
                 written.text
             );
         }
+    }
+}
+
+#[test]
+fn bench_texts_have_their_size() {
+    for bytes in [1000, 20_000, 200_000] {
+        let text = sized(bytes);
+        assert!(text.len().abs_diff(bytes) < bytes / 5, "{} bytes for {bytes}", text.len());
+        assert!(read(&text, 65536).is_ok());
     }
 }

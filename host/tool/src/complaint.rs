@@ -2,7 +2,7 @@
 
 use crate::kinds;
 use crate::said::{Place, Said, quoted};
-use reader::{Lead, Refused, Space, Span, Why};
+use reader::{Lead, Refused, Space, Span, Undeclared, Why};
 
 /// The lines of a complaint; the first is `file:line:column: what`.
 pub fn complaint(file: &str, text: &[u8], refused: &Refused) -> String {
@@ -11,7 +11,7 @@ pub fn complaint(file: &str, text: &[u8], refused: &Refused) -> String {
         Why::Comment(comment) => of_comment(text, comment),
         Why::Level(node) => Said::new("this node lies in level 17", node.clone())
             .hint("nodes lie in at most 16 levels; the outermost is level 1"),
-        Why::Undeclared(space, name, declared) => of_undeclared(text, *space, name, declared),
+        Why::Undeclared(undeclared) => of_undeclared(text, undeclared),
         Why::Twice(space, name, first) => {
             let place = Place::of(text, first.start);
             Said::new(format!("{} declared twice", quoted(text, name)), name.clone()).hint(format!(
@@ -93,7 +93,9 @@ fn of_comment(text: &[u8], comment: &Span) -> Said {
     Said::new(what, first).hint(hint)
 }
 
-fn of_undeclared(text: &[u8], space: Space, name: &Span, declared: &[Span]) -> Said {
+fn of_undeclared(text: &[u8], undeclared: &Undeclared) -> Said {
+    let Undeclared { space, name, elsewhere, .. } = undeclared;
+    let word = String::from_utf8_lossy(&text[name.clone()]);
     let said = Said::new(format!("undeclared name {}", quoted(text, name)), name.clone());
     let where_to = match space {
         Space::Command => "no command of this name is declared before the plan",
@@ -101,15 +103,33 @@ fn of_undeclared(text: &[u8], space: Space, name: &Span, declared: &[Span]) -> S
         Space::Variable => "neither this node nor one above it declares a variable of this name",
         Space::Node => "no node of this name is to be found from here",
     };
-    let near = declared.iter().filter_map(|other| {
-        let steps = distance(&text[name.clone()], &text[other.clone()]);
+    let hint = match (space, nearest(text, undeclared)) {
+        (Space::Variable, _) if elsewhere.contains(&Space::Lookup) => {
+            format!("it is a lookup: write LookupNow({word})")
+        }
+        (Space::Variable, _) if elsewhere.contains(&Space::Node) => {
+            format!("it is a node: ask for its state, as {word}.state == FINISHED")
+        }
+        (Space::Lookup, _) if elsewhere.contains(&Space::Variable) => {
+            format!("it is a variable: write {word} alone")
+        }
+        (_, Some(other)) if text[other.clone()] == text[name.clone()] => {
+            format!("{where_to}; one elsewhere has it")
+        }
+        (_, Some(other)) => format!("{where_to}; is it {}?", quoted(text, other)),
+        (_, None) => where_to.to_string(),
+    };
+    said.hint(hint)
+}
+
+/// The declared name that is at most two letters away.
+fn nearest<'u>(text: &[u8], undeclared: &'u Undeclared) -> Option<&'u Span> {
+    let name = &text[undeclared.name.clone()];
+    let near = undeclared.declared.iter().filter_map(|other| {
+        let steps = distance(name, &text[other.clone()]);
         (steps <= 2 && steps < name.len()).then_some((steps, other))
     });
-    match near.min_by_key(|(steps, _)| *steps) {
-        Some((0, _)) => said.hint(format!("{where_to}; one elsewhere has it")),
-        Some((_, other)) => said.hint(format!("{where_to}; is it {}?", quoted(text, other))),
-        None => said.hint(where_to),
-    }
+    near.min_by_key(|(steps, _)| *steps).map(|(_, other)| other)
 }
 
 fn of_counts(counts: &[usize; 4]) -> Said {

@@ -122,7 +122,7 @@ fn the_stories_end_well() {
 }
 
 /// A text, the refusal's number, and what is told of it.
-const REFUSED: [(&str, i32, &[&str]); 12] = [
+const REFUSED: [(&str, i32, &[&str]); 14] = [
     (
         "Command Scan = 1;\n{ Command: Scann(); }",
         42,
@@ -131,6 +131,16 @@ const REFUSED: [(&str, i32, &[&str]); 12] = [
             "  2 | { Command: Scann(); }\n    |            ^~~~~\n",
             "is it 'Scan'?",
         ],
+    ),
+    (
+        "Real Lookup humidity;\n{ PreCondition: humidity > 45.0; NodeList: {} }",
+        42,
+        &["it is a lookup: write LookupNow(humidity)\n"],
+    ),
+    (
+        "A: { NodeList: { B: { PreCondition: A; NodeList: {} } } }",
+        42,
+        &["it is a node: ask for its state, as A.state == FINISHED\n"],
     ),
     ("{ Integer: { x; }\n Real: { x; } NodeList: {} }", 42, &[":2:10: 'x' declared twice\n", "in line 1"]),
     (
