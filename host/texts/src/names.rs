@@ -47,7 +47,7 @@ pub fn twice(random: &mut Random, pair: &mut Pair, plan: &Plan) -> Result<(), Di
         other.commands.push(Command { name: plan.commands[0].name.clone(), number: 7 });
         let tokens = tokens(random, &other);
         let is_last = |at: &usize| tokens[at + 2] == "=" && tokens[*at] == "Command";
-        let last = (0..tokens.len() - 2).filter(is_last).last().unwrap_or(0);
+        let last = (0..tokens.len() - 2).rfind(is_last).unwrap_or(0);
         refused_there(random, pair, &tokens, last + 1)?;
     }
     if !plan.lookups.is_empty() {
