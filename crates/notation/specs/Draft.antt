@@ -1,6 +1,6 @@
 -- The draft of a plan: what a text has said so far, names still as they are written.
 use Prim.Native.Nat.{ℕ}
-use mathlib.Core.List.{List, [], _∷_}
+use mathlib.Core.List.{List, []}
 use Rattle.grammar.specs.Spelling.{Token, Placed}
 use Rattle.notation.specs.Sayings.{Kind, What, Operator}
 

@@ -1,12 +1,11 @@
 -- The image of a draft whose names are in order: its records, nodes, variables and lookups in text order, entries as their operators end.
 use Prim.Native.Nat.{ℕ, zero, suc, _+_, _*_}
-use mathlib.Core.Bool.{Bool, true, false}
+use mathlib.Core.Bool.{Bool}
 use mathlib.Core.List.{List, [], _∷_, _++_}
 use lib.ListN.{length, getD}
 use lib.Dec.{leb}
 use Rattle.plexil.specs.Lists.{every, Found, at, nowhere}
 use Rattle.plexil.specs.Assemble as Assemble
-use Rattle.grammar.specs.Spelling.{Token}
 use Rattle.notation.specs.Sayings.{Kind, boolean, integer, float, What, status, outcome, failure}
 use Rattle.notation.specs.Draft.{Command, Lookup, Variable, Body, list, assignment, Node, Binary, or, and, eq, lt, le, add, sub, mul, Entry, constant, unknownOf, about, negation, two, Draft}
 use Rattle.notation.specs.Names.{commandOf, lookupOf, variableOf, nodeOf}

@@ -1,10 +1,10 @@
 -- The order in which a text's tokens speak, those that say nothing left out: `X l k` says that the sayings l begin with a phrase X and go on with k.
 use Prim.Native.Nat.{ℕ}
 use mathlib.Core.Path.{_≡_}
-use mathlib.Core.Bool.{Bool, true, false}
+use mathlib.Core.Bool.{Bool}
 use mathlib.Core.List.{List, [], _∷_}
 use Rattle.grammar.specs.Table.{Said}
-use Rattle.notation.specs.Sayings.{Kind, What, Operator, Saying, silence, declaresCommand, numbersCommand, declaresLookup, names, begins, opensList, closesList, calls, assigns, conditions, ranks, declaresVariable, initialTruth, initialWhole, initialDecimal, initialBits, truth, whole, decimal, bits, unknown, reads, mentions, descends, asks, negates, operates, parenthesis, closes, ends}
+use Rattle.notation.specs.Sayings.{Kind, What, Operator, Saying, declaresCommand, numbersCommand, declaresLookup, names, begins, opensList, closesList, calls, assigns, conditions, ranks, declaresVariable, initialTruth, initialWhole, initialDecimal, initialBits, truth, whole, decimal, bits, unknown, reads, mentions, descends, asks, negates, operates, parenthesis, closes, ends}
 
 abbrev pub Sayings : Type 0
 Sayings = List (Said Saying)

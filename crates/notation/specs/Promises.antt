@@ -53,6 +53,10 @@ PlansViable =
     (u : List ℕ)
     → (textReach u ≤ length u) × BeginsPlan (take (textReach u) u) × ((n : ℕ) → n ≤ length u → BeginsPlan (take n u) → n ≤ textReach u)
 
+-- a text of the notation is viable to its end
+abbrev pub PlansWhole : Type 0
+PlansWhole = (u : List ℕ) → PlanText u → textReach u ≡ length u
+
 -- what a text of the notation says is a phrase of `Phrases`, and the tokens that say nothing add nothing
 abbrev pub PlansPhrased : Type 0
 PlansPhrased = (u : List ℕ) (l : List (Said Saying)) → planSays u ≡ some l → Plan (spoken l)

@@ -1,6 +1,5 @@
 -- The whole reply of reading a text: "Refusals, in this order: 40 Text .., 41 Level, 42 Name .., 3, 43 ImageRoom, then the others of 1 to 12".
-use Prim.Native.Nat.{ℕ, zero}
-use mathlib.Core.Bool.{Bool, true, false}
+use Prim.Native.Nat.{ℕ}
 use mathlib.Core.List.{List, [], _∷_, _++_}
 use mathlib.Core.Option.{Option, none, some}
 use lib.ListN.{length, drop}

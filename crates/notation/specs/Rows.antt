@@ -1,5 +1,5 @@
 -- The grammar of plans as text: for each sort of phrase its rows. `X ↣ Y says Z`: a phrase begins with X, goes on with Y, and X says Z.
-use Prim.Native.Nat.{ℕ, zero, suc}
+use Prim.Native.Nat.{ℕ, suc}
 use Prim.Native.String.{String}
 use mathlib.Core.Bool.{Bool, true, false, cond, _||_}
 use mathlib.Core.List.{List, [], _∷_, _++_}
