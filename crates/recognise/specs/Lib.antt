@@ -1,0 +1,10 @@
+pub mod Codes
+pub mod Positions
+pub mod Tables
+pub mod Steps
+pub mod Taking
+pub mod Hears
+pub mod Counting
+pub mod Recognised
+pub mod Room
+pub mod Reaching
