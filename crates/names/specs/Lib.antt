@@ -1,0 +1,10 @@
+pub mod Roles
+pub mod Tale
+pub mod Order
+pub mod View
+pub mod Seek
+pub mod Walking
+pub mod Answers
+pub mod Tables
+pub mod Judging
+pub mod Kinds
