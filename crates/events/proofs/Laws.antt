@@ -10,7 +10,9 @@ use lib.ListN.{length}
 use lib.Seq.{set-out}
 use Rattle.plexil.specs.declared.Cell.{Cell}
 use Rattle.plexil.specs.declared.State.{State}
-use Rattle.plexil.specs.declared.TakeAnswer.{TakeAnswer}
+use Rattle.plexil.specs.declared.RunAnswer.{RunAnswer}
+use Rattle.plexil.specs.declared.Tested.{Tested}
+use Rattle.plexil.specs.declared.Tested.the-variants.{Refused}
 use Rattle.plexil.specs.Lists.{if_then_else_, Found, at, nowhere}
 use Rattle.plexil.specs.Image.{Image}
 use Rattle.plexil.specs.Places.{stateOf}
@@ -21,11 +23,11 @@ use Rattle.events.specs.Found.{foundOf}
 use Rattle.plexil.proofs.ListLaws.{if-true, if-false}
 
 -- ---- the entry that is named, and else the other answer
-pub named : (refusal : ℕ → TakeAnswer) (x : Found) (other : TakeAnswer) {k : ℕ} → at k ≡ x → refusal k ≡ orElse refusal x other
+pub named : (refusal : ℕ → RunAnswer) (x : Found) (other : Tested) {k : ℕ} → at k ≡ x → Refused (refusal k) ≡ orElse refusal x other
 unfolding orElse
 named refusal x other e = rw (← e)
 
-pub not-named : (refusal : ℕ → TakeAnswer) (x : Found) (other : TakeAnswer) {r : TakeAnswer} → nowhere ≡ x → r ≡ other → r ≡ orElse refusal x other
+pub not-named : (refusal : ℕ → RunAnswer) (x : Found) (other : Tested) {r : Tested} → nowhere ≡ x → r ≡ other → r ≡ orElse refusal x other
 unfolding orElse
 not-named refusal x other e h = rw (← e) h
 
@@ -36,10 +38,10 @@ pub found-none : {r : code.Found} {x : Found} → foundOf r ≡ x → r ≡ answ
 found-none e q = sym (ap foundOf q) ∙ e
 
 -- ---- a refusal by one test, and else the other answer
-pub refused : (b : Bool) (x y : TakeAnswer) → b ≡ false → x ≡ (if not b then x else y)
+pub refused : (b : Bool) (x y : Tested) → b ≡ false → x ≡ (if not b then x else y)
 refused b x y e = sym (if-true (not b) x y (ap not e))
 
-pub goes-on : (b : Bool) (x y : TakeAnswer) {r : TakeAnswer} → b ≡ true → r ≡ y → r ≡ (if not b then x else y)
+pub goes-on : (b : Bool) (x y : Tested) {r : Tested} → b ≡ true → r ≡ y → r ≡ (if not b then x else y)
 goes-on b x y e h = h ∙ sym (if-false (not b) x y (ap not e))
 
 -- ---- an entry by its form

@@ -13,24 +13,25 @@ use answers::entries_answer;
 pub use card::card_after;
 pub use enter::entered;
 use plexil::Card;
+use plexil::RunAnswer;
 use plexil::State;
-use plexil::TakeAnswer;
+use plexil::Tested;
 use shape::event_serial;
 use shape::good_shape;
 ghost use mathlib.Core.Path.{_≡_};
 ghost use Rattle.plexil.specs.Macro.{eventAnswer};
 
-pub fn event_answer(image: &[u8], state: State, card: Card, event: &[u8]) -> TakeAnswer
+pub fn event_answer(image: &[u8], state: State, card: Card, event: &[u8]) -> Tested
     ensures { λ r. ⌜ r ≡ eventAnswer (now (image .entry)) state card (now (event .entry)) ⌝ }
 {
     if card.phase != 1 {
-        return TakeAnswer::Busy;
+        return Tested::Refused(RunAnswer::Busy);
     }
     if good_shape(event) {
         if event_serial(event) != card.serial {
-            return TakeAnswer::Turn;
+            return Tested::Refused(RunAnswer::Turn);
         }
         return entries_answer(image, &state.status, &state.mark, event);
     }
-    TakeAnswer::Shape
+    Tested::Refused(RunAnswer::Shape)
 }

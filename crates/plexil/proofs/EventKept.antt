@@ -10,7 +10,7 @@ use borrow.Author.Tests.{ltb-true, not-false}
 use Rattle.plexil.specs.declared.Cell.{Cell}
 use Rattle.plexil.specs.declared.State.{State}
 use Rattle.plexil.specs.declared.Card.{Card}
-use Rattle.plexil.specs.declared.TakeAnswer.the-variants.{Accepted}
+use Rattle.plexil.specs.declared.Tested.the-variants.{Accepted}
 use Rattle.plexil.specs.Lists.{if_then_else_, every, some}
 use Rattle.plexil.specs.Image.{Image, nodeCount, lookCount, lookKind}
 use Rattle.plexil.specs.Values.{cell}

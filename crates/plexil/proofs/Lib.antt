@@ -38,6 +38,7 @@ pub mod SizesKept
 pub mod Sessions
 pub mod NeverState
 pub mod Replies
+pub mod TurnBoth
 pub mod Synchrony
 pub mod MicroRelation
 pub mod Framework

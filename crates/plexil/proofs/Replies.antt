@@ -1,4 +1,4 @@
--- Promise 7: one reply for each call, refusals that change nothing, and the course of a run by its reply.
+-- Promise 7: one reply for each call, refusals that change nothing, and the course of a run and of a turn by its reply.
 use Prim.Native.Nat.{ℕ, _+_, _≤_, _<_}
 use mathlib.Core.Path.{_≡_, refl, sym, ap, _∙_}
 use mathlib.Core.Logic.{_⊎_, ⊎-elim, _≢_, _↔_}
@@ -13,19 +13,19 @@ use Rattle.plexil.specs.declared.Verdict.the-variants.{Admitted, Refused
 use Rattle.plexil.specs.declared.RunAnswer.{RunAnswer}
 use Rattle.plexil.specs.declared.RunAnswer.the-variants as ran
 use Rattle.plexil.specs.declared.Ran.{Ran}
-use Rattle.plexil.specs.declared.Taken.{Taken}
 use Rattle.plexil.specs.Lists.{put}
 use Rattle.plexil.specs.Image.{Image}
 use Rattle.plexil.specs.Check.{verdict}
 use Rattle.plexil.specs.Micro.{quiet}
 use Rattle.plexil.specs.Places.{Quiet}
 use Rattle.plexil.specs.Quiescence.{atQuiet, spent, noRoom, Run, run}
-use Rattle.plexil.specs.Replies.{numbered, verdictNumber, runNumber, takeNumber, endAnswer, phaseAfter, startedBy, freshReply, RunReply, notRun, hasRun}
-use Rattle.plexil.specs.ReplyPromises.{iterate, wordsOf, OneCheck, OneFresh, OneRun, OneTake, FreshRefusalKeeps, TakeRefusalKeeps, RunRefusalKeeps, Unrun, Ended, Course, HasRun, RunCourse, QuietExactly, WordsStay, LengthStays}
+use Rattle.plexil.specs.Macro.{entryCount, entered, cardAfter}
+use Rattle.plexil.specs.Replies.{numbered, verdictNumber, runNumber, endAnswer, phaseAfter, startedBy, freshReply, RunReply, notRun, hasRun, hasTurned}
+use Rattle.plexil.specs.ReplyPromises.{iterate, wordsOf, OneCheck, OneFresh, OneRun, OneTurn, FreshRefusalKeeps, RunRefusalKeeps, TurnRefusalKeeps, Unrun, Ended, Course, HasRun, RunCourse, TurnCourse, StaysOutside, QuietExactly, WordsStay, LengthStays}
 use Rattle.plexil.proofs.ListLaws.{not-both}
 use Rattle.plexil.proofs.PutLaws.{length-put, put-before, put-beyond}
 use Rattle.plexil.proofs.RunCourse.{Ends, by-quiet, by-budget, by-room, Rounds, run-rounds}
-use Rattle.plexil.proofs.ReplyLaws.{rule-range, end-number, Refuses, by-image, by-state, by-place, run-either, take-either}
+use Rattle.plexil.proofs.ReplyLaws.{rule-range, end-number, Refuses, by-image, by-state, by-place, run-either, TurnRefuses, as-run, by-event, turn-either, event-number}
 
 -- ---- one reply
 pub one-check : OneCheck
@@ -37,8 +37,8 @@ one-fresh p s c r q e f = e ∙ sym f
 pub one-run : OneRun
 one-run p s c budget l start r q exit final e f = (e .reply ∙ sym (f .reply), e .lent ∙ sym (f .lent))
 
-pub one-take : OneTake
-one-take p s c b r q e f = e ∙ sym f
+pub one-turn : OneTurn
+one-turn p s c b budget l start r q exit final e f = (e .reply ∙ sym (f .reply), e .lent ∙ sym (f .lent))
 
 -- ---- refusals
 started-refused : (p : Image) (s : State) (c : Card) (v : Verdict) → verdictNumber (startedBy v p s c .verdict) .number ≢ 0
@@ -51,19 +51,17 @@ pub fresh-refusal-keeps : FreshRefusalKeeps
 unfolding freshReply
 fresh-refusal-keeps p s c = started-refused p s c (verdict p)
 
-pub take-refusal-keeps : TakeRefusalKeeps
-unfolding takeNumber numbered
-take-refusal-keeps p s c b =
-    take-either p s c b (λ (r : Taken). takeNumber (r .answer) .number ≢ 0 → (r .state ≡ s) × (r .card ≡ c))
-    (λ a e n h. (refl, refl))
-    (λ g e h. absurd (h refl))
-
 -- a refusal's number is neither 0 nor 32, where a run's end has one of the two
-refused-number : (p : Image) (s : State) (c : Card) (l : List ℕ) (start : ℕ) (a : RunAnswer) → Refuses p s c l start a → (runNumber a .number ≢ 0) × (runNumber a .number ≢ 32)
+pub refused-number : (p : Image) (s : State) (c : Card) (l : List ℕ) (start : ℕ) (a : RunAnswer) → Refuses p s c l start a → (runNumber a .number ≢ 0) × (runNumber a .number ≢ 32)
 unfolding runNumber numbered
 refused-number p s c l start a (by-image r i e) = (λ h. omega (arith, rule-range r), λ h. omega (arith, rule-range r))
 refused-number p s c l start a (by-state g) = (λ h. omega arith, λ h. omega arith)
 refused-number p s c l start a (by-place m) = (λ h. omega arith, λ h. omega arith)
+
+pub turn-refused-number : (p : Image) (s : State) (c : Card) (b l : List ℕ) (start : ℕ) (a : RunAnswer) → TurnRefuses p s c b l start a
+    → (runNumber a .number ≢ 0) × (runNumber a .number ≢ 32)
+turn-refused-number p s c b l start a (as-run why) = refused-number p s c l start a why
+turn-refused-number p s c b l start a (by-event e) = (λ h. omega (arith, event-number p s c b a e), λ h. omega (arith, event-number p s c b a e))
 
 pub run-refusal-keeps : RunRefusalKeeps
 unfolding notRun hasRun
@@ -73,7 +71,15 @@ run-refusal-keeps p s c budget l start =
     (λ a why n m. record { steps = refl; next = refl; state = refl; card = refl; lent = refl })
     (λ v g b n m. absurd (⊎-elim n m (end-number (run p s budget l start .end))))
 
--- ---- the course of a run
+pub turn-refusal-keeps : TurnRefusalKeeps
+unfolding notRun hasTurned hasRun
+turn-refusal-keeps p s c b budget l start =
+    turn-either p s c b budget l start
+    (λ (r : RunReply). runNumber (r .ran .answer) .number ≢ 0 → runNumber (r .ran .answer) .number ≢ 32 → Unrun s c l start r)
+    (λ a why n m. record { steps = refl; next = refl; state = refl; card = refl; lent = refl })
+    (λ v g m e n k. absurd (⊎-elim n k (end-number (run p (entered p b (entryCount b) s) budget l start .end))))
+
+-- ---- the course of a run, and of a turn
 module _ (p : Image) (s : State) (c : Card) (budget : ℕ) (l : List ℕ) (start : ℕ) where
   ended-of : (r : Run) (count : ℕ) → count ≡ r .steps → Ends p budget count (length l) r → Ended p budget l (hasRun c r .ran)
   unfolding hasRun endAnswer phaseAfter
@@ -103,6 +109,13 @@ run-course p s c budget l start =
     (λ a why h. let n = refused-number p s c l start a why in absurd (⊎-elim (n .0) (n .1) h))
     (λ v g b h. course-of p s c budget l start _ (run-rounds p budget 0 s l start b))
 
+pub turn-course : TurnCourse
+unfolding notRun hasTurned run
+turn-course p s c b budget l start =
+    turn-either p s c b budget l start (λ (r : RunReply). HasRun r → Course p (entered p b (entryCount b) s) (cardAfter c) budget l start r)
+    (λ a why h. let n = turn-refused-number p s c b l start a why in absurd (⊎-elim (n .0) (n .1) h))
+    (λ v g m e h. course-of p _ (cardAfter c) budget l start _ (run-rounds p budget 0 _ l start m))
+
 quiet-by : (p : Image) (budget : ℕ) (l : List ℕ) (r : Ran) → Ended p budget l r
     → ((r .answer ≡ ran.Quiet) ↔ (quiet p (r .state) ≡ true)) × ((r .card .phase ≡ Quiet) ↔ (r .answer ≡ ran.Quiet))
 quiet-by p budget l r (Ended.atQuiet a f q) = ((λ h. q, λ h. a), (λ h. a, λ h. f))
@@ -110,21 +123,33 @@ quiet-by p budget l r (Ended.spent a f q n) = ((λ h. cc, λ h. absurd (not-both
 quiet-by p budget l r (Ended.noRoom a f q n w) = ((λ h. cc, λ h. absurd (not-both _ h q)), (λ h. absurd (omega arith), λ h. cc))
 
 pub quiet-exactly : QuietExactly
-quiet-exactly p s c budget l start h = quiet-by p budget l _ (run-course p s c budget l start h .ended)
+quiet-exactly p s c budget l start =
+    (λ h. quiet-by p budget l _ (run-course p s c budget l start h .ended), λ b h. quiet-by p budget l _ (turn-course p s c b budget l start h .ended))
 
 -- ---- the words that stay
+module _ (p : Image) (s : State) (c : Card) (budget : ℕ) (l : List ℕ) (start : ℕ) (b : start ≤ length l) where
+  outside-of : StaysOutside l start (hasRun c (run p s budget l start))
+  unfolding hasRun run
+  outside-of i h =
+      let x = run-rounds p budget 0 s l start b in
+      ap (λ (k : List ℕ). getD k i 0) (x .list)
+      ∙ ⊎-elim (put-before l start _ i 0 b) (λ m. put-beyond l start _ i 0 b (omega (arith, x .place))) h
+
+  length-of : length (hasRun c (run p s budget l start) .list) ≡ length l
+  unfolding hasRun run
+  length-of =
+      let x = run-rounds p budget 0 s l start b in ap length (x .list) ∙ length-put l start (wordsOf p (x .count) s) (omega (arith, x .room, x .place))
+
 pub words-stay : WordsStay
-unfolding notRun hasRun run
-words-stay p s c budget l start i =
-    run-either p s c budget l start (λ (r : RunReply). (i < start) ⊎ (r .ran .next ≤ i) → getD (r .list) i 0 ≡ getD l i 0)
-    (λ a why h. refl)
-    (λ v g b h. let x = run-rounds p budget 0 s l start b in
-    ap (λ (k : List ℕ). getD k i 0) (x .list)
-    ∙ ⊎-elim (put-before l start _ i 0 b) (λ m. put-beyond l start _ i 0 b (omega (arith, x .place))) h)
+unfolding notRun hasTurned
+words-stay p s c budget l start = (
+  run-either p s c budget l start (StaysOutside l start) (λ a why i h. refl) (λ v g b. outside-of p s c budget l start b),
+  λ event. turn-either p s c event budget l start (StaysOutside l start) (λ a why i h. refl) (λ v g b e. outside-of p _ (cardAfter c) budget l start b),
+)
 
 pub length-stays : LengthStays
-unfolding notRun hasRun run
-length-stays p s c budget l start =
-    run-either p s c budget l start (λ (r : RunReply). length (r .list) ≡ length l)
-    (λ a why. refl)
-    (λ v g b. let x = run-rounds p budget 0 s l start b in ap length (x .list) ∙ length-put l start (wordsOf p (x .count) s) (omega (arith, x .room, x .place)))
+unfolding notRun hasTurned
+length-stays p s c budget l start = (
+  run-either p s c budget l start (λ (r : RunReply). length (r .list) ≡ length l) (λ a why. refl) (λ v g b. length-of p s c budget l start b),
+  λ event. turn-either p s c event budget l start (λ (r : RunReply). length (r .list) ≡ length l) (λ a why. refl) (λ v g b e. length-of p _ (cardAfter c) budget l start b),
+)

@@ -1,23 +1,24 @@
--- Promise 1: in every session the state and the card pass 30, since each run and each event leads from such a pair to such a pair.
+-- Promise 1: in every session the state and the card pass 30, since each run and each turn leads from such a pair to such a pair.
 use Prim.Native.Nat.{ℕ, zero, suc}
 use mathlib.Core.Path.{_≡_, refl, _∙_}
 use mathlib.Core.Bool.{true}
 use mathlib.Core.List.{List}
 use Rattle.plexil.specs.declared.State.{State}
 use Rattle.plexil.specs.declared.Card.{Card}
+use Rattle.plexil.specs.declared.Tested.the-variants.{Accepted}
 use Rattle.plexil.specs.Lists.{if_then_else_, every, some}
 use Rattle.plexil.specs.Image.{Image}
 use Rattle.plexil.specs.Places.{freshState, freshCard}
 use Rattle.plexil.specs.Micro.{step}
 use Rattle.plexil.specs.Quiescence.{Run, run}
 use Rattle.plexil.specs.Form.{goodCard, goodKept}
-use Rattle.plexil.specs.Macro.{entryCount, cardAfter}
-use Rattle.plexil.specs.Replies.{phaseAfter, RunReply, notRun, hasRun}
-use Rattle.plexil.specs.Promises.{IsAdmitted, IsKept, Sized, Session, fresh, ran, took, SessionsKept, Passes, RunKeeps, TakeKeeps}
+use Rattle.plexil.specs.Macro.{eventAnswer, entryCount, entered, cardAfter}
+use Rattle.plexil.specs.Replies.{phaseAfter, RunReply, notRun, hasRun, hasTurned}
+use Rattle.plexil.specs.Promises.{IsAdmitted, IsKept, Sized, Session, fresh, ran, turned, SessionsKept, Passes, RunKeeps, TurnKeeps}
 use Rattle.plexil.specs.ReplyPromises.{iterate}
 use Rattle.plexil.proofs.ListLaws.{every-at, every-cons, every-nil}
 use Rattle.plexil.proofs.RunCourse.{Ends, by-quiet, by-budget, by-room, Rounds, run-rounds}
-use Rattle.plexil.proofs.ReplyLaws.{run-either, take-either}
+use Rattle.plexil.proofs.ReplyLaws.{run-either, turn-either}
 use Rattle.plexil.proofs.FreshKept.{fresh-kept}
 use Rattle.plexil.proofs.EventKept.{event-kept}
 use Rattle.plexil.proofs.StepKept.{step-kept}
@@ -66,14 +67,22 @@ running-card : (p : Image) (s : State) (c : Card) → goodCard p s (cardAfter c)
 unfolding goodCard cardAfter some if_then_else_
 running-card p s c = refl
 
-pub take-keeps : TakeKeeps
-take-keeps p s c a h b =
-    take-either p s c b (λ r. Passes p (r .state) (r .card))
-    (λ x e n. h)
-    (λ g e. record {
-      kept = both p _ (cardAfter c) (event-kept p s c b a (kept-of p s c g) (h .sized) e) (running-card p _ c);
-      sized = entered-sized p b (entryCount b) s (h .sized);
-    })
+-- what the taking of an event leaves passes 30
+pub event-passes : (p : Image) (s : State) (c : Card) (b : List ℕ) → IsAdmitted p → goodKept p s c ≡ true → Sized s → eventAnswer p s c b ≡ Accepted
+    → Passes p (entered p b (entryCount b) s) (cardAfter c)
+event-passes p s c b a g z e = record {
+  kept = both p _ (cardAfter c) (event-kept p s c b a (kept-of p s c g) z e) (running-card p _ c);
+  sized = entered-sized p b (entryCount b) s z;
+}
+
+-- ---- a turn
+pub turn-keeps : TurnKeeps
+unfolding notRun hasTurned run
+turn-keeps p s c a h b budget l start =
+    turn-either p s c b budget l start (λ (r : RunReply). Passes p (r .ran .state) (r .ran .card))
+    (λ x why. h)
+    (λ v g m e. let t = event-passes p s c b a g (h .sized) e in
+    rounds-keep p _ (cardAfter c) budget l start _ a (kept-of p _ (cardAfter c) (t .kept)) (t .sized) (run-rounds p budget 0 _ l start m))
 
 -- ---- a session
 pub record InSession (p : Image) (s : State) (c : Card) : Type 0 where
@@ -89,8 +98,8 @@ session-kept p s c (fresh a) =
     record { admitted = a; passes = record { kept = both p (freshState p) freshCard (fresh-kept p a) (fresh-card p _); sized = fresh-sized p a } }
 session-kept p s c (ran {s = t} {c = d} x budget l start) =
     let h = session-kept p t d x in record { admitted = h .admitted; passes = run-keeps p t d (h .admitted) (h .passes) budget l start }
-session-kept p s c (took {s = t} {c = d} x b) =
-    let h = session-kept p t d x in record { admitted = h .admitted; passes = take-keeps p t d (h .admitted) (h .passes) b }
+session-kept p s c (turned {s = t} {c = d} x b budget l start) =
+    let h = session-kept p t d x in record { admitted = h .admitted; passes = turn-keeps p t d (h .admitted) (h .passes) b budget l start }
 
 pub sessions-kept : SessionsKept
 sessions-kept p s c x = session-kept p s c x .passes .kept

@@ -16,7 +16,7 @@ use Rattle.plexil.specs.declared.Place.{Place}
 use Rattle.plexil.specs.declared.Status.{Status}
 use Rattle.plexil.specs.declared.Effect.{Effect}
 use Rattle.plexil.specs.declared.Move.the-variants.{Go}
-use Rattle.plexil.specs.declared.TakeAnswer.the-variants.{Accepted}
+use Rattle.plexil.specs.declared.Tested.the-variants.{Accepted}
 use Rattle.plexil.specs.Values.{cell}
 use Rattle.plexil.specs.Image.{Image, nodeCount, varCount, what, owner}
 use Rattle.plexil.specs.Places.{stateOf, initial, Failure, WriteLost, Quiet}

@@ -3,7 +3,7 @@ use Prim.Native.Nat.{ℕ}
 use mathlib.Core.List.{List, [], _∷_}
 use Rattle.plexil.specs.declared.RunAnswer.the-variants as ran
 use Rattle.plexil.specs.Assemble.{no, plain, only, aList, aCommand, anAssignment, expr, const, variable, lookup, plan, entry, event}
-use Rattle.plexil.specs.Play.{runs, takes, holds, stands, Case}
+use Rattle.plexil.specs.Play.{runs, turnsWith, holds, stands, Case}
 
 -- one assignment of variable 0, of kind k, by entry e
 unfoldable pub lone : ℕ → List (List ℕ) → ℕ → List ℕ
@@ -37,7 +37,7 @@ K4 = record { image = plan (aList no plain ∷ []) [] [] []; turns = runs ran.Qu
 unfoldable pub K5 : Case
 K5 = record {
   image = plan (aCommand no plain ∷ []) [] [] [];
-  turns = runs ran.Quiet 1 (0 ∷ []) ∷ takes (event 0 (entry 2 0 0 ∷ [])) 0 0 ∷ runs ran.Quiet 2 [] ∷ stands 0 6 1 0 ∷ [];
+  turns = runs ran.Quiet 1 (0 ∷ []) ∷ turnsWith (event 0 (entry 2 0 0 ∷ [])) ran.Quiet 2 [] ∷ stands 0 6 1 0 ∷ [];
 }
 
 -- "List owns x = 0; child x := x + 1, Repeat x < 3"; with the owner as a parameter
@@ -64,8 +64,7 @@ K8 = record {
 unfoldable pub K9 : Case
 K9 = record {
   image = plan (aList no (only 3 0) ∷ aCommand 0 plain ∷ []) (expr 2 0 0 0 0 ∷ []) [] (lookup 0 ∷ []);
-  turns = runs ran.Quiet 3 (2 ∷ []) ∷ takes (event 0 (entry 0 0 0 ∷ [])) 0 0 ∷ runs ran.Quiet 2 (3 ∷ [])
-      ∷ takes (event 1 (entry 2 1 0 ∷ [])) 0 0 ∷ runs ran.Quiet 4 [] ∷ stands 0 6 2 3 ∷ [];
+  turns = runs ran.Quiet 3 (2 ∷ []) ∷ turnsWith (event 0 (entry 0 0 0 ∷ [])) ran.Quiet 2 (3 ∷ []) ∷ turnsWith (event 1 (entry 2 1 0 ∷ [])) ran.Quiet 4 [] ∷ stands 0 6 2 3 ∷ [];
 }
 
 -- "K10 9223372036854775807 + 1 Unknown; False AND Unknown False"

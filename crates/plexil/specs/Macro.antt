@@ -7,8 +7,10 @@ use lib.Dec.{eqb, ltb, leb}
 use Rattle.plexil.specs.declared.Cell.{Cell}
 use Rattle.plexil.specs.declared.State.{State}
 use Rattle.plexil.specs.declared.Card.{Card}
-use Rattle.plexil.specs.declared.TakeAnswer.{TakeAnswer}
-use Rattle.plexil.specs.declared.TakeAnswer.the-variants.{Busy, Shape, Turn, Entry, Twice, NotAwaited, Accepted}
+use Rattle.plexil.specs.declared.RunAnswer.{RunAnswer}
+use Rattle.plexil.specs.declared.RunAnswer.the-variants.{Busy, Shape, Turn, Entry, Twice, NotAwaited}
+use Rattle.plexil.specs.declared.Tested.{Tested}
+use Rattle.plexil.specs.declared.Tested.the-variants.{Accepted, Refused}
 use Rattle.plexil.specs.Lists.{if_then_else_, every, anyBelow, Found, at, nowhere, first}
 use Rattle.plexil.specs.Bytes.{byteAt, le16, le32, le64}
 use Rattle.plexil.specs.Values.{cell, goodBits}
@@ -77,14 +79,14 @@ unfoldable pub notAwaited : State → List ℕ → ℕ → Bool
 notAwaited s b k = every (eqb (form b k) 2 ∷ not (awaited s (index b k)) ∷ [])
 
 -- the lowest breaking entry is named, and else the answer is `other`
-unfoldable pub orElse : (ℕ → TakeAnswer) → Found → TakeAnswer → TakeAnswer
-orElse refusal (at k) other = refusal k
+unfoldable pub orElse : (ℕ → RunAnswer) → Found → Tested → Tested
+orElse refusal (at k) other = Refused (refusal k)
 orElse refusal nowhere other = other
 
 -- "20 to 25 in order"; "20 Busy: event while Running", "22 Turn: serial not the next"
-unfoldable pub eventAnswer : Image → State → Card → List ℕ → TakeAnswer
+unfoldable pub eventAnswer : Image → State → Card → List ℕ → Tested
 eventAnswer p s c b =
-    if not (eqb (c .phase) Quiet) then Busy else if not (goodShape b) then Shape else if not (eqb (eventSerial b) (c .serial)) then Turn else orElse Entry (first (entryCount b) (λ k. not (goodEntry p b k)))
+    if not (eqb (c .phase) Quiet) then Refused Busy else if not (goodShape b) then Refused Shape else if not (eqb (eventSerial b) (c .serial)) then Refused Turn else orElse Entry (first (entryCount b) (λ k. not (goodEntry p b k)))
     (orElse Twice (first (entryCount b) (namedBefore b))
     (orElse NotAwaited (first (entryCount b) (notAwaited s b)) Accepted))
 

@@ -11,15 +11,18 @@ use Rattle.plexil.specs.declared.RunAnswer.the-variants as ran
 use Rattle.plexil.specs.Lists.{if_then_else_, every}
 use Rattle.plexil.specs.Places.{varCell, lookCell, freshState, freshCard}
 use Rattle.plexil.specs.Check.{ruleNumber}
-use Rattle.plexil.specs.Replies.{RunReply, verdictNumber, takeNumber, checkReply, freshReply, runReply, takeReply}
+use Rattle.plexil.specs.Replies.{RunReply, verdictNumber, runNumber, checkReply, freshReply, runReply, turnReply}
 
 pub data Turn : Type 0 where
   -- a run of budget 100 answers this, after so many steps, with these words
   runs : RunAnswer → ℕ → List ℕ → Turn
   -- a run of this budget, on this list from this place on: its answer, its steps, the next free place and the list at its exit
   runsOn : ℕ → List ℕ → ℕ → RunAnswer → ℕ → ℕ → List ℕ → Turn
-  -- an event is taken, with this refusal number and entry
-  takes : List ℕ → ℕ → ℕ → Turn
+  -- the same of a turn with this event
+  turnsWith : List ℕ → RunAnswer → ℕ → List ℕ → Turn
+  turnsOn : List ℕ → ℕ → List ℕ → ℕ → RunAnswer → ℕ → ℕ → List ℕ → Turn
+  -- a turn of budget 0 with this event: its refusal number and entry
+  enters : List ℕ → ℕ → ℕ → Turn
   -- a variable's tag and bits; a node's status, outcome and failure
   holds : ℕ → ℕ → ℕ → Turn
   stands : ℕ → ℕ → ℕ → ℕ → Turn
@@ -67,11 +70,17 @@ pub record Case : Type 0 where
   pub image : List ℕ
   pub turns : List Turn
 
--- a number for each answer of a run
+-- a number for each answer of a run or a turn
 unfoldable pub answerCode : RunAnswer → ℕ
 answerCode (ran.Refused r i) = ruleNumber r
 answerCode ran.State = 30
 answerCode ran.Place = 31
+answerCode ran.Busy = 20
+answerCode ran.Shape = 21
+answerCode ran.Turn = 22
+answerCode (ran.Entry k) = 23
+answerCode (ran.Twice k) = 24
+answerCode (ran.NotAwaited k) = 25
 answerCode ran.NoRoom = 32
 answerCode ran.Spent = 33
 answerCode ran.Quiet = 34
@@ -116,17 +125,26 @@ seen b s c = record { passed = b; state = s; card = c }
 unfoldable pub afterRun : RunReply → Bool → Seen
 afterRun r b = seen b (r .ran .state) (r .ran .card)
 
-unfoldable pub see : List ℕ → State → Card → Turn → Seen
-see p s c (runs a n ws) =
-    let r = runReply p s c 100 room 0 in
+-- the answer, the steps, and the words that were written
+unfoldable pub wrote : RunReply → RunAnswer → ℕ → List ℕ → Seen
+wrote r a n ws =
     afterRun r (every (eqb (answerCode (r .ran .answer)) (answerCode a) ∷ eqb (r .ran .steps) n ∷ sameWords (take (r .ran .next) (r .list)) ws ∷ []))
-see p s c (runsOn budget l start a n next l′) =
-    let r = runReply p s c budget l start in
-    afterRun r
-    (every (eqb (answerCode (r .ran .answer)) (answerCode a) ∷ eqb (r .ran .steps) n ∷ eqb (r .ran .next) next ∷ sameWords (r .list) l′ ∷ []))
-see p s c (takes b n k) =
-    let r = takeReply p s c b in
-    seen (every (eqb (takeNumber (r .answer) .number) n ∷ eqb (takeNumber (r .answer) .record′) k ∷ [])) (r .state) (r .card)
+
+-- the answer, the steps, the next free place and the whole list
+unfoldable pub wroteOn : RunReply → RunAnswer → ℕ → ℕ → List ℕ → Seen
+wroteOn r a n next l =
+    afterRun r (every (eqb (answerCode (r .ran .answer)) (answerCode a) ∷ eqb (r .ran .steps) n ∷ eqb (r .ran .next) next ∷ sameWords (r .list) l ∷ []))
+
+-- the refusal number, and the entry that it names
+unfoldable pub entersBy : RunReply → ℕ → ℕ → Seen
+entersBy r n k = afterRun r (every (eqb (runNumber (r .ran .answer) .number) n ∷ eqb (runNumber (r .ran .answer) .record′) k ∷ []))
+
+unfoldable pub see : List ℕ → State → Card → Turn → Seen
+see p s c (runs a n ws) = wrote (runReply p s c 100 room 0) a n ws
+see p s c (runsOn budget l start a n next l′) = wroteOn (runReply p s c budget l start) a n next l′
+see p s c (turnsWith b a n ws) = wrote (turnReply p s c b 100 room 0) a n ws
+see p s c (turnsOn b budget l start a n next l′) = wroteOn (turnReply p s c b budget l start) a n next l′
+see p s c (enters b n k) = entersBy (turnReply p s c b 0 [] 0) n k
 see p s c (holds v t w) = seen (every (eqb (varCell s v .tag) t ∷ eqb (varCell s v .bits) w ∷ [])) s c
 see p s c (stands i a o f) = seen (every (eqb (getD (s .status) i 0) a ∷ eqb (getD (s .outcome) i 0) o ∷ eqb (getD (s .failure) i 0) f ∷ [])) s c
 see p s c (looks l t w) = seen (every (eqb (lookCell s l .tag) t ∷ eqb (lookCell s l .bits) w ∷ [])) s c
@@ -161,5 +179,5 @@ allPass (k ∷ ks) = elim (passes k) [ true ↦ allPass ks | false ↦ false ]
 
 -- opens every definition of this file
 unfoldable pub opened : Unit {0}
-unfolding answerCode sameWords changed stateKept cardKept seen afterRun see plays passes allPass
+unfolding answerCode sameWords changed stateKept cardKept seen afterRun wrote wroteOn entersBy see plays passes allPass
 opened = tt

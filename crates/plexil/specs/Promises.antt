@@ -9,7 +9,7 @@ use Rattle.plexil.specs.declared.Worked.the-variants.{Clash}
 use Rattle.plexil.specs.declared.State.{State}
 use Rattle.plexil.specs.declared.Card.{Card}
 use Rattle.plexil.specs.declared.Verdict.the-variants.{Admitted}
-use Rattle.plexil.specs.declared.TakeAnswer.the-variants.{Accepted}
+use Rattle.plexil.specs.declared.Tested.the-variants.{Accepted}
 use Rattle.plexil.specs.Image.{Image, nodeCount, exprCount, priority, what, owner, operandA, operandB}
 use Rattle.plexil.specs.Places.{statusAt, varCell, initial, freshState, freshCard, Failure, WriteLost}
 use Rattle.plexil.specs.Expressions.{notOp, binary, Binary, operatorAt, evalOf}
@@ -19,7 +19,7 @@ use Rattle.plexil.specs.Micro.{writes, written, outcomeAfter, failureAft
 use Rattle.plexil.specs.Order.{carryNothing, walk, settle, NamesOnce}
 use Rattle.plexil.specs.Form.{allowed, goodState, goodKept}
 use Rattle.plexil.specs.Macro.{eventAnswer, entered, entryCount}
-use Rattle.plexil.specs.Replies.{runNumber, takeNumber, runReply, takeReply}
+use Rattle.plexil.specs.Replies.{runNumber, runReply, turnReply}
 
 -- a plan that the check admits
 abbrev pub IsAdmitted : Image → Type 0
@@ -40,38 +40,40 @@ pub record Sized (s : State) : Type 0 where
   pub looktags : length (s .looktags) ≡ 64
   pub lookbits : length (s .lookbits) ≡ 64
 
--- "from a fresh start, under any events and runs": any budget, list and place, also refused, Spent and NoRoom ones
+-- "from a fresh start, under any events and runs": runs and turns of any event, budget, list and place, also refused, Spent and NoRoom ones
 pub data Session (p : Image) : State → Card → Type 0 where
   fresh : IsAdmitted p → Session p (freshState p) freshCard
   ran : {s : State} {c : Card} → Session p s c → (budget : ℕ) (list : List ℕ) (start : ℕ)
       → Session p (runReply p s c budget list start .ran .state) (runReply p s c budget list start .ran .card)
-  took : {s : State} {c : Card} → Session p s c → (event : List ℕ) → Session p (takeReply p s c event .state) (takeReply p s c event .card)
+  turned : {s : State} {c : Card} → Session p s c → (event : List ℕ) (budget : ℕ) (list : List ℕ) (start : ℕ)
+      → Session p (turnReply p s c event budget list start .ran .state) (turnReply p s c event budget list start .ran .card)
 
 -- 1. Sessions: refusal 30 never comes
 abbrev pub SessionsKept : Type 0
 SessionsKept = (p : Image) (s : State) (c : Card) → Session p s c → goodKept p s c ≡ true
 
--- no run and no taking of an event answers 30 in a session
+-- no run and no turn answers 30 in a session
 abbrev pub NeverState : Type 0
 NeverState =
     (p : Image) (s : State) (c : Card) → Session p s c
     → ((budget : ℕ) (list : List ℕ) (start : ℕ) → runNumber (runReply p s c budget list start .ran .answer) .number ≢ 30)
-    × ((event : List ℕ) → takeNumber (takeReply p s c event .answer) .number ≢ 30)
+    × ((event : List ℕ) (budget : ℕ) (list : List ℕ) (start : ℕ) → runNumber (turnReply p s c event budget list start .ran .answer) .number ≢ 30)
 
 -- a state of its lengths and a card that pass 30
 pub record Passes (p : Image) (s : State) (c : Card) : Type 0 where
   pub kept : goodKept p s c ≡ true
   pub sized : Sized s
 
--- "from every kept state that passes 30" a run and the taking of an event lead to such a state again, whatever they answer
+-- "from every kept state that passes 30" a run and a turn lead to such a state again, whatever they answer
 abbrev pub RunKeeps : Type 0
 RunKeeps =
     (p : Image) (s : State) (c : Card) → IsAdmitted p → Passes p s c → (budget : ℕ) (list : List ℕ) (start : ℕ)
     → Passes p (runReply p s c budget list start .ran .state) (runReply p s c budget list start .ran .card)
 
-abbrev pub TakeKeeps : Type 0
-TakeKeeps =
-    (p : Image) (s : State) (c : Card) → IsAdmitted p → Passes p s c → (event : List ℕ) → Passes p (takeReply p s c event .state) (takeReply p s c event .card)
+abbrev pub TurnKeeps : Type 0
+TurnKeeps =
+    (p : Image) (s : State) (c : Card) → IsAdmitted p → Passes p s c → (event : List ℕ) (budget : ℕ) (list : List ℕ) (start : ℕ)
+    → Passes p (turnReply p s c event budget list start .ran .state) (turnReply p s c event budget list start .ran .card)
 
 -- the three ways on from a kept state
 abbrev pub FreshKept : Type 0

@@ -1,9 +1,9 @@
 -- The whole reply of each call, and what is lent at exit: "Every call checks its image first, then 30
--- (not in a fresh start), then 31 or 20 to 25 in order".
+-- (not in a fresh start), then 31", and a turn then 20 to 25 in order.
 use Prim.Native.Nat.{ℕ}
 use mathlib.Core.List.{List}
 use lib.ListN.{length}
-use lib.Dec.{eqb, ltb}
+use lib.Dec.{ltb}
 use Rattle.plexil.specs.declared.State.{State}
 use Rattle.plexil.specs.declared.Card.{Card}
 use Rattle.plexil.specs.declared.Counts.{Counts}
@@ -14,9 +14,8 @@ use Rattle.plexil.specs.declared.Started.{Started}
 use Rattle.plexil.specs.declared.RunAnswer.{RunAnswer}
 use Rattle.plexil.specs.declared.RunAnswer.the-variants as ran
 use Rattle.plexil.specs.declared.Ran.{Ran}
-use Rattle.plexil.specs.declared.TakeAnswer.{TakeAnswer}
-use Rattle.plexil.specs.declared.TakeAnswer.the-variants as take
-use Rattle.plexil.specs.declared.Taken.{Taken}
+use Rattle.plexil.specs.declared.Tested.{Tested}
+use Rattle.plexil.specs.declared.Tested.the-variants as test
 use Rattle.plexil.specs.Lists.{if_then_else_}
 use Rattle.plexil.specs.Image.{Image, nodeCount, exprCount, varCount, lookCount}
 use Rattle.plexil.specs.Places.{freshState, freshCard, Running, Quiet}
@@ -39,26 +38,20 @@ unfoldable pub verdictNumber : Verdict → Numbered
 verdictNumber Admitted = numbered 0 0
 verdictNumber (Refused r i) = numbered (ruleNumber r) i
 
--- 1 to 12, and 30 to 32
+-- 1 to 12, 20 to 25 and 30 to 32: "with 23 to 25 the lowest breaking entry is named .. and otherwise 0"
 unfoldable pub runNumber : RunAnswer → Numbered
 runNumber (ran.Refused r i) = numbered (ruleNumber r) i
 runNumber ran.State = numbered 30 0
 runNumber ran.Place = numbered 31 0
+runNumber ran.Busy = numbered 20 0
+runNumber ran.Shape = numbered 21 0
+runNumber ran.Turn = numbered 22 0
+runNumber (ran.Entry k) = numbered 23 k
+runNumber (ran.Twice k) = numbered 24 k
+runNumber (ran.NotAwaited k) = numbered 25 k
 runNumber ran.NoRoom = numbered 32 0
 runNumber ran.Spent = numbered 0 0
 runNumber ran.Quiet = numbered 0 0
-
--- 1 to 12, 30, and 20 to 25: "with 23 to 25 the lowest breaking entry is named .. and otherwise 0"
-unfoldable pub takeNumber : TakeAnswer → Numbered
-takeNumber (take.Refused r i) = numbered (ruleNumber r) i
-takeNumber take.State = numbered 30 0
-takeNumber take.Busy = numbered 20 0
-takeNumber take.Shape = numbered 21 0
-takeNumber take.Turn = numbered 22 0
-takeNumber (take.Entry k) = numbered 23 k
-takeNumber (take.Twice k) = numbered 24 k
-takeNumber (take.NotAwaited k) = numbered 25 k
-takeNumber take.Accepted = numbered 0 0
 
 -- ---- check
 -- the counts of a plan
@@ -88,6 +81,21 @@ startedBy (Refused r i) p s c = record { verdict = Refused r i; state = s; card 
 unfoldable pub freshReply : Image → State → Card → Started
 freshReply p s c = startedBy (verdict p) p s c
 
+-- ---- the tests before a run and before a turn
+-- "Every call checks its image first, then 30 .., then 31"; "31 Place: list start beyond its end"
+unfoldable pub runTest : Verdict → Image → State → Card → ℕ → ℕ → Tested
+runTest (Refused r i) p s c end start = test.Refused (ran.Refused r i)
+runTest Admitted p s c end start = if goodKept p s c then (if ltb end start then test.Refused ran.Place else test.Accepted) else test.Refused ran.State
+
+-- a further test, made where the first accepts
+unfoldable pub andThen : Tested → Tested → Tested
+andThen (test.Refused a) t = test.Refused a
+andThen test.Accepted t = t
+
+-- "31 is now tested after 30 and before 20"
+unfoldable pub turnTest : Verdict → Image → State → Card → List ℕ → ℕ → ℕ → Tested
+turnTest v p s c b end start = andThen (runTest v p s c end start) (eventAnswer p s c b)
+
 -- ---- run
 -- the answer of a run's end
 unfoldable pub endAnswer : RunEnd → RunAnswer
@@ -101,7 +109,7 @@ phaseAfter atQuiet = Quiet
 phaseAfter spent = Running
 phaseAfter noRoom = Running
 
--- a run's reply beside the list at its exit
+-- the reply of a run or a turn beside the list at its exit
 pub record RunReply : Type 0 where
   pub ran : Ran
   pub list : List ℕ
@@ -123,32 +131,25 @@ hasRun c r = record {
   list = r .list;
 }
 
--- "Every call checks its image first, then 30 .., then 31"; "31 Place: list start beyond its end"
-unfoldable pub ranBy : Verdict → Image → State → Card → ℕ → List ℕ → ℕ → RunReply
-ranBy (Refused r i) p s c budget l start = notRun (ran.Refused r i) s c l start
-ranBy Admitted p s c budget l start =
-    if goodKept p s c then (if ltb (length l) start then notRun ran.Place s c l start else hasRun c (run p s budget l start)) else notRun ran.State s c l start
+-- what has run where the tests accept
+unfoldable pub ranBy : Tested → State → Card → List ℕ → ℕ → RunReply → RunReply
+ranBy (test.Refused a) s c l start r = notRun a s c l start
+ranBy test.Accepted s c l start r = r
 
 -- the whole reply of a run, and the list at exit
 unfoldable pub runReply : Image → State → Card → ℕ → List ℕ → ℕ → RunReply
-runReply p s c budget l start = ranBy (verdict p) p s c budget l start
+runReply p s c budget l start = ranBy (runTest (verdict p) p s c (length l) start) s c l start (hasRun c (run p s budget l start))
 
--- ---- the taking of an event
--- "Apart from 32 a refusal changes nothing"; an answer without a number is no refusal
-unfoldable pub takenBy : TakeAnswer → Image → State → Card → List ℕ → Taken
-takenBy a p s c b =
-    if eqb (takeNumber a .number) 0 then record { answer = a; state = entered p b (entryCount b) s; card = cardAfter c } else record { answer = a; state = s; card = c }
+-- ---- turn
+-- "Join the two into one call with event, budget and command list": the event enters, and the run begins
+unfoldable pub hasTurned : Image → State → Card → List ℕ → ℕ → List ℕ → ℕ → RunReply
+hasTurned p s c b budget l start = hasRun (cardAfter c) (run p (entered p b (entryCount b) s) budget l start)
 
--- "Every call checks its image first, then 30 .., then .. 20 to 25 in order"
-unfoldable pub takeAnswer : Verdict → Image → State → Card → List ℕ → TakeAnswer
-takeAnswer (Refused r i) p s c b = take.Refused r i
-takeAnswer Admitted p s c b = if goodKept p s c then eventAnswer p s c b else take.State
-
--- the whole reply of the taking of an event
-unfoldable pub takeReply : Image → State → Card → List ℕ → Taken
-takeReply p s c b = takenBy (takeAnswer (verdict p) p s c b) p s c b
+-- "a refusal of either's input leaves everything, the event included": the whole reply of a turn, and the list at exit
+unfoldable pub turnReply : Image → State → Card → List ℕ → ℕ → List ℕ → ℕ → RunReply
+turnReply p s c b budget l start = ranBy (turnTest (verdict p) p s c b (length l) start) s c l start (hasTurned p s c b budget l start)
 
 -- opens every definition of this file
 unfoldable pub opened : Unit {0}
-unfolding numbered verdictNumber runNumber takeNumber checkedBy checkReply startedBy freshReply endAnswer phaseAfter notRun hasRun ranBy runReply takenBy takeAnswer takeReply
+unfolding numbered verdictNumber runNumber checkedBy checkReply startedBy freshReply runTest andThen turnTest endAnswer phaseAfter notRun hasRun ranBy runReply hasTurned turnReply
 opened = tt

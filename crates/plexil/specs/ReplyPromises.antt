@@ -1,4 +1,5 @@
--- Promise 7 in statements: each call permits one reply, a refusal but 32 changes nothing, a run's count is its number of micro steps.
+-- Promise 7 in statements: each call permits one reply, a refusal but 32 changes nothing, a turn is the taking of its event and then a run,
+-- and the count of either is its number of micro steps.
 use Prim.Native.Nat.{ℕ, zero, suc, _+_, _<_, _≤_}
 use mathlib.Core.Path.{_≡_}
 use mathlib.Core.Logic.{_⊎_, _≢_, _↔_}
@@ -7,16 +8,23 @@ use mathlib.Core.List.{List, [], _++_}
 use lib.ListN.{length, getD}
 use Rattle.plexil.specs.declared.State.{State}
 use Rattle.plexil.specs.declared.Card.{Card}
+use Rattle.plexil.specs.declared.Rule.{Rule}
 use Rattle.plexil.specs.declared.Checked.{Checked}
 use Rattle.plexil.specs.declared.Started.{Started}
 use Rattle.plexil.specs.declared.RunAnswer.the-variants as ran
 use Rattle.plexil.specs.declared.Ran.{Ran}
-use Rattle.plexil.specs.declared.Taken.{Taken}
+use Rattle.plexil.specs.declared.Verdict.the-variants.{Refused}
+use Rattle.plexil.specs.declared.RunAnswer.{RunAnswer}
+use Rattle.plexil.specs.declared.Tested.the-variants as test
 use Rattle.plexil.specs.Lists.{put}
 use Rattle.plexil.specs.Image.{Image}
 use Rattle.plexil.specs.Places.{Running, Quiet}
 use Rattle.plexil.specs.Micro.{step, words, quiet}
-use Rattle.plexil.specs.Replies.{verdictNumber, runNumber, takeNumber, checkReply, freshReply, RunReply, runReply, takeReply}
+use Rattle.plexil.specs.Check.{verdict}
+use Rattle.plexil.specs.Form.{goodKept}
+use Rattle.plexil.specs.Macro.{eventAnswer, entryCount, entered, cardAfter}
+use Rattle.plexil.specs.Replies.{verdictNumber, runNumber, checkReply, freshReply, RunReply, runReply, turnReply}
+use Rattle.plexil.specs.Promises.{IsAdmitted, Sized}
 
 -- the state after k micro steps from s
 unfoldable pub iterate : Image → ℕ → State → State
@@ -39,8 +47,9 @@ pub record RunPermits (p : Image) (s : State) (c : Card) (budget : ℕ) (list : 
   pub reply : r ≡ runReply p s c budget list start .ran
   pub lent : exit ≡ runReply p s c budget list start .list
 
-abbrev pub TakePermits : Image → State → Card → List ℕ → Taken → Type 0
-TakePermits p s c b r = r ≡ takeReply p s c b
+pub record TurnPermits (p : Image) (s : State) (c : Card) (event : List ℕ) (budget : ℕ) (list : List ℕ) (start : ℕ) (r : Ran) (exit : List ℕ) : Type 0 where
+  pub reply : r ≡ turnReply p s c event budget list start .ran
+  pub lent : exit ≡ turnReply p s c event budget list start .list
 
 abbrev pub OneCheck : Type 0
 OneCheck = (p : Image) (r q : Checked) → CheckPermits p r → CheckPermits p q → r ≡ q
@@ -53,19 +62,16 @@ OneRun =
     (p : Image) (s : State) (c : Card) (budget : ℕ) (list : List ℕ) (start : ℕ) (r q : Ran) (exit final : List ℕ)
     → RunPermits p s c budget list start r exit → RunPermits p s c budget list start q final → (r ≡ q) × (exit ≡ final)
 
-abbrev pub OneTake : Type 0
-OneTake = (p : Image) (s : State) (c : Card) (b : List ℕ) (r q : Taken) → TakePermits p s c b r → TakePermits p s c b q → r ≡ q
+abbrev pub OneTurn : Type 0
+OneTurn =
+    (p : Image) (s : State) (c : Card) (event : List ℕ) (budget : ℕ) (list : List ℕ) (start : ℕ) (r q : Ran) (exit final : List ℕ)
+    → TurnPermits p s c event budget list start r exit → TurnPermits p s c event budget list start q final → (r ≡ q) × (exit ≡ final)
 
 -- ---- "Apart from 32 a refusal changes nothing"
 abbrev pub FreshRefusalKeeps : Type 0
 FreshRefusalKeeps =
     (p : Image) (s : State) (c : Card) → verdictNumber (freshReply p s c .verdict) .number ≢ 0
     → (freshReply p s c .state ≡ s) × (freshReply p s c .card ≡ c)
-
-abbrev pub TakeRefusalKeeps : Type 0
-TakeRefusalKeeps =
-    (p : Image) (s : State) (c : Card) (b : List ℕ) → takeNumber (takeReply p s c b .answer) .number ≢ 0
-    → (takeReply p s c b .state ≡ s) × (takeReply p s c b .card ≡ c)
 
 -- "refusals but 32 answer 0 and the given start place"
 pub record Unrun (s : State) (c : Card) (list : List ℕ) (start : ℕ) (r : RunReply) : Type 0 where
@@ -82,14 +88,34 @@ RunRefusalKeeps =
     → runNumber (runReply p s c budget list start .ran .answer) .number ≢ 32
     → Unrun s c list start (runReply p s c budget list start)
 
--- ---- the three ends of a run, each with what holds then. "The phase is Quiet exactly after the answer Quiet"
+-- "a refusal of either's input leaves everything, the event included": the serial and the phase are of the card
+abbrev pub TurnRefusalKeeps : Type 0
+TurnRefusalKeeps =
+    (p : Image) (s : State) (c : Card) (event : List ℕ) (budget : ℕ) (list : List ℕ) (start : ℕ)
+    → runNumber (turnReply p s c event budget list start .ran .answer) .number ≢ 0
+    → runNumber (turnReply p s c event budget list start .ran .answer) .number ≢ 32
+    → Unrun s c list start (turnReply p s c event budget list start)
+
+-- "31 is now tested after 30 and before 20": the first broken test answers, whatever the later ones would
+pub record InOrder (p : Image) (s : State) (c : Card) (event list : List ℕ) (start : ℕ) (answer : RunAnswer) : Type 0 where
+  pub image : (r : Rule) (i : ℕ) → verdict p ≡ Refused r i → answer ≡ ran.Refused r i
+  pub state : IsAdmitted p → goodKept p s c ≡ false → answer ≡ ran.State
+  pub place : IsAdmitted p → goodKept p s c ≡ true → length list < start → answer ≡ ran.Place
+  pub entry : IsAdmitted p → goodKept p s c ≡ true → start ≤ length list → (a : RunAnswer) → eventAnswer p s c event ≡ test.Refused a → answer ≡ a
+
+abbrev pub TurnOrder : Type 0
+TurnOrder =
+    (p : Image) (s : State) (c : Card) (event : List ℕ) (budget : ℕ) (list : List ℕ) (start : ℕ)
+    → InOrder p s c event list start (turnReply p s c event budget list start .ran .answer)
+
+-- ---- the three ends of a run or a turn, each with what holds then. "The phase is Quiet exactly after the answer Quiet"
 pub data Ended (p : Image) (budget : ℕ) (list : List ℕ) (r : Ran) : Type 0 where
   atQuiet : r .answer ≡ ran.Quiet → r .card .phase ≡ Quiet → quiet p (r .state) ≡ true → Ended p budget list r
   spent : r .answer ≡ ran.Spent → r .card .phase ≡ Running → quiet p (r .state) ≡ false → r .steps ≡ budget → Ended p budget list r
   noRoom : r .answer ≡ ran.NoRoom → r .card .phase ≡ Running → quiet p (r .state) ≡ false → r .steps < budget
       → length list < r .next + length (words p (r .state)) → Ended p budget list r
 
--- the course of a run that is not refused, or refused by 32: as many micro steps as it answers, in each of which a rule applied
+-- the course from this state and card of what is not refused, or refused by 32: as many micro steps as it answers, in each of which a rule applied
 pub record Course (p : Image) (s : State) (c : Card) (budget : ℕ) (list : List ℕ) (start : ℕ) (r : RunReply) : Type 0 where
   pub within : r .ran .steps ≤ budget
   pub applied : (k : ℕ) → k < r .ran .steps → quiet p (iterate p k s) ≡ false
@@ -108,22 +134,54 @@ RunCourse =
     (p : Image) (s : State) (c : Card) (budget : ℕ) (list : List ℕ) (start : ℕ) → HasRun (runReply p s c budget list start)
     → Course p s c budget list start (runReply p s c budget list start)
 
+-- a turn's course is that of the run on what the event leaves: "NoRoom and Spent keep the event"
+abbrev pub TurnCourse : Type 0
+TurnCourse =
+    (p : Image) (s : State) (c : Card) (event : List ℕ) (budget : ℕ) (list : List ℕ) (start : ℕ) → HasRun (turnReply p s c event budget list start)
+    → Course p (entered p event (entryCount event) s) (cardAfter c) budget list start (turnReply p s c event budget list start)
+
+-- ---- "It answers as the two would in that order". The taking of the event is not refused
+pub record Takes (p : Image) (s : State) (c : Card) (event : List ℕ) : Type 0 where
+  pub kept : goodKept p s c ≡ true
+  pub accepted : eventAnswer p s c event ≡ test.Accepted
+
+-- where neither is refused, the run but by 32, the turn is the taking followed by the run
+abbrev pub TurnIsBoth : Type 0
+TurnIsBoth =
+    (p : Image) (s : State) (c : Card) (event : List ℕ) (budget : ℕ) (list : List ℕ) (start : ℕ) → Takes p s c event
+    → HasRun (runReply p (entered p event (entryCount event) s) (cardAfter c) budget list start)
+    → turnReply p s c event budget list start ≡ runReply p (entered p event (entryCount event) s) (cardAfter c) budget list start
+
+-- and where the turn is not refused neither of the two is
+abbrev pub BothOfTurn : Type 0
+BothOfTurn =
+    (p : Image) (s : State) (c : Card) (event : List ℕ) (budget : ℕ) (list : List ℕ) (start : ℕ) → Sized s → HasRun (turnReply p s c event budget list start)
+    → Takes p s c event × HasRun (runReply p (entered p event (entryCount event) s) (cardAfter c) budget list start)
+
+-- ---- what holds of the reply of a run and of a turn
 -- "Quiet means that no rule applies", "The phase is Quiet exactly after the answer Quiet"
-abbrev pub QuietExactly : Type 0
-QuietExactly =
-    (p : Image) (s : State) (c : Card) (budget : ℕ) (list : List ℕ) (start : ℕ) → HasRun (runReply p s c budget list start)
-    → ((runReply p s c budget list start .ran .answer ≡ ran.Quiet) ↔ (quiet p (runReply p s c budget list start .ran .state) ≡ true))
-    × ((runReply p s c budget list start .ran .card .phase ≡ Quiet) ↔ (runReply p s c budget list start .ran .answer ≡ ran.Quiet))
+abbrev pub IsExact : Image → RunReply → Type 0
+IsExact p r =
+    HasRun r → ((r .ran .answer ≡ ran.Quiet) ↔ (quiet p (r .ran .state) ≡ true)) × ((r .ran .card .phase ≡ Quiet) ↔ (r .ran .answer ≡ ran.Quiet))
 
 -- "Words before the start place and beyond the last word written stay", after every reply
+abbrev pub StaysOutside : List ℕ → ℕ → RunReply → Type 0
+StaysOutside list start r = (i : ℕ) → (i < start) ⊎ (r .ran .next ≤ i) → getD (r .list) i 0 ≡ getD list i 0
+
+abbrev pub QuietExactly : Type 0
+QuietExactly =
+    (p : Image) (s : State) (c : Card) (budget : ℕ) (list : List ℕ) (start : ℕ)
+    → IsExact p (runReply p s c budget list start) × ((event : List ℕ) → IsExact p (turnReply p s c event budget list start))
+
 abbrev pub WordsStay : Type 0
 WordsStay =
-    (p : Image) (s : State) (c : Card) (budget : ℕ) (list : List ℕ) (start : ℕ) (i : ℕ) → (i < start) ⊎ (runReply p s c budget list start .ran .next ≤ i)
-    → getD (runReply p s c budget list start .list) i 0 ≡ getD list i 0
+    (p : Image) (s : State) (c : Card) (budget : ℕ) (list : List ℕ) (start : ℕ)
+    → StaysOutside list start (runReply p s c budget list start) × ((event : List ℕ) → StaysOutside list start (turnReply p s c event budget list start))
 
 abbrev pub LengthStays : Type 0
 LengthStays =
-    (p : Image) (s : State) (c : Card) (budget : ℕ) (list : List ℕ) (start : ℕ) → length (runReply p s c budget list start .list) ≡ length list
+    (p : Image) (s : State) (c : Card) (budget : ℕ) (list : List ℕ) (start : ℕ)
+    → (length (runReply p s c budget list start .list) ≡ length list) × ((event : List ℕ) → length (turnReply p s c event budget list start .list) ≡ length list)
 
 -- opens every definition of this file
 unfoldable pub opened : Unit {0}

@@ -134,41 +134,33 @@ pub struct Started {
     pub card: Card,
 }
 
-// How a run ended.
+// How a run or a turn ended. Busy to NotAwaited are a turn's alone; Entry, Twice and NotAwaited name the event's entry.
 pub enum RunAnswer {
     Refused(Rule, u16),
     State,
     Place,
-    NoRoom,
-    Spent,
-    Quiet,
-}
-
-// The reply of a run: the count of steps done and the next free place in the list.
-pub struct Ran {
-    pub answer: RunAnswer,
-    pub steps: u16,
-    pub next: usize,
-    pub state: State,
-    pub card: Card,
-}
-
-// What became of an event. Entry, Twice and NotAwaited name the entry.
-pub enum TakeAnswer {
-    Refused(Rule, u16),
-    State,
     Busy,
     Shape,
     Turn,
     Entry(u16),
     Twice(u16),
     NotAwaited(u16),
-    Accepted,
+    NoRoom,
+    Spent,
+    Quiet,
 }
 
-// The reply of the taking of an event.
-pub struct Taken {
-    pub answer: TakeAnswer,
+// What the tests before a run or a turn answer: what is given is accepted, or the first broken one refuses.
+pub enum Tested {
+    Accepted,
+    Refused(RunAnswer),
+}
+
+// The reply of a run or a turn: the count of steps done and the next free place in the list.
+pub struct Ran {
+    pub answer: RunAnswer,
+    pub steps: u16,
+    pub next: usize,
     pub state: State,
     pub card: Card,
 }

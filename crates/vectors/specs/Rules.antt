@@ -4,7 +4,7 @@ use mathlib.Core.List.{List, [], _∷_}
 use lib.ListN.{set}
 use Rattle.plexil.specs.declared.RunAnswer.the-variants as ran
 use Rattle.plexil.specs.Assemble.{no, plain, only, aCommand, anAssignment, expr, const, variable, lookup, plan, entry, event}
-use Rattle.plexil.specs.Play.{Turn, runs, runsOn, takes, holds, stands, marked, keeps, failures, Case}
+use Rattle.plexil.specs.Play.{Turn, runs, runsOn, turnsWith, enters, holds, stands, marked, keeps, failures, Case}
 
 -- n micro steps without words, and a rule still applies
 unfoldable pub steps : ℕ → Turn
@@ -69,23 +69,21 @@ commanded = plan (aCommand no (both 3 0 4 1) ∷ []) (expr 2 0 0 0 0 ∷ expr 2 
 unfoldable pub returning : Case
 returning = record {
   image = commanded;
-  turns = runs ran.Quiet 1 (0 ∷ []) ∷ takes (event 0 (entry 0 1 1 ∷ [])) 0 0 ∷ runs ran.Quiet 0 [] ∷ takes (event 1 (entry 0 1 0 ∷ entry 2 0 0 ∷ [])) 0 0 ∷ marked 0 1
-      ∷ runs ran.Quiet 0 [] ∷ stands 0 2 0 0 ∷ marked 0 1 ∷ takes (event 2 (entry 0 1 1 ∷ [])) 0 0 ∷ steps 1 ∷ stands 0 5 1 0 ∷ marked 0 0 ∷ runs ran.Quiet 1 [] ∷ stands 0 6 1 0 ∷ [];
+  turns = runs ran.Quiet 1 (0 ∷ []) ∷ turnsWith (event 0 (entry 0 1 1 ∷ [])) ran.Quiet 0 [] ∷ turnsWith (event 1 (entry 0 1 0 ∷ entry 2 0 0 ∷ [])) ran.Quiet 0 [] ∷ stands 0 2 0 0 ∷ marked 0 1 ∷ enters (event 2 (entry 0 1 1 ∷ [])) 0 0 ∷ steps 1 ∷ stands 0 5 1 0 ∷ marked 0 0 ∷ runs ran.Quiet 1 [] ∷ stands 0 6 1 0 ∷ [];
 }
 
 -- "A list or command goes to Failing, a command not yet returned issues an abort"; Failing, "command returned: IterationEnded, outcome kept"
 unfoldable pub aborting : Case
 aborting = record {
   image = commanded;
-  turns = runs ran.Quiet 1 (0 ∷ []) ∷ takes (event 0 (entry 0 0 0 ∷ [])) 0 0 ∷ runs ran.Quiet 1 (1 ∷ []) ∷ stands 0 4 2 3 ∷ takes (event 1 (entry 0 0 1 ∷ [])) 0 0
-      ∷ runs ran.Quiet 0 [] ∷ takes (event 2 (entry 2 0 0 ∷ [])) 0 0 ∷ steps 1 ∷ stands 0 5 2 3 ∷ marked 0 0 ∷ runs ran.Quiet 1 [] ∷ stands 0 6 2 3 ∷ [];
+  turns = runs ran.Quiet 1 (0 ∷ []) ∷ turnsWith (event 0 (entry 0 0 0 ∷ [])) ran.Quiet 1 (1 ∷ []) ∷ stands 0 4 2 3 ∷ turnsWith (event 1 (entry 0 0 1 ∷ [])) ran.Quiet 0 [] ∷ enters (event 2 (entry 2 0 0 ∷ [])) 0 0 ∷ steps 1 ∷ stands 0 5 2 3 ∷ marked 0 0 ∷ runs ran.Quiet 1 [] ∷ stands 0 6 2 3 ∷ [];
 }
 
 -- a command that has returned fails without an abort, and keeps its mark until IterationEnded
 unfoldable pub returnedThenFailing : Case
 returnedThenFailing = record {
   image = commanded;
-  turns = runs ran.Quiet 1 (0 ∷ []) ∷ takes (event 0 (entry 0 0 0 ∷ entry 2 0 0 ∷ [])) 0 0 ∷ steps 1 ∷ stands 0 4 2 3 ∷ marked 0 1 ∷ steps 1 ∷ stands 0 5 2 3 ∷ marked 0 0
+  turns = runs ran.Quiet 1 (0 ∷ []) ∷ enters (event 0 (entry 0 0 0 ∷ entry 2 0 0 ∷ [])) 0 0 ∷ steps 1 ∷ stands 0 4 2 3 ∷ marked 0 1 ∷ steps 1 ∷ stands 0 5 2 3 ∷ marked 0 0
       ∷ runs ran.Quiet 1 [] ∷ stands 0 6 2 3 ∷ [];
 }
 

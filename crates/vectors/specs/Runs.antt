@@ -1,15 +1,14 @@
 -- Fresh starts, runs and refused images in vectors: the whole list, the next free place, the card, and the numbers of the answers.
 use Prim.Native.Nat.{ℕ}
-use mathlib.Core.List.{List, [], _∷_, map}
+use mathlib.Core.List.{List, [], _∷_, _++_, map}
 use lib.ListN.{getD, set}
 use Rattle.plexil.specs.declared.State.{State}
 use Rattle.plexil.specs.declared.Card.{Card}
 use Rattle.plexil.specs.declared.Rule.the-variants as rule
 use Rattle.plexil.specs.declared.Verdict.the-variants as check
 use Rattle.plexil.specs.declared.RunAnswer.the-variants as ran
-use Rattle.plexil.specs.declared.TakeAnswer.the-variants as take
 use Rattle.plexil.specs.Places.{freshState}
-use Rattle.plexil.specs.Replies.{Numbered, verdictNumber, runNumber, takeNumber, freshReply, runReply, takeReply}
+use Rattle.plexil.specs.Replies.{Numbered, verdictNumber, runNumber, RunReply, freshReply, runReply, turnReply}
 use Rattle.plexil.specs.Assemble.{no, plain, only, aList, aCommand, const, plan, event}
 use Rattle.plexil.specs.Play.{runs, runsOn, holds, stands, looks, marked, shows, sized, keeps, statuses, lookTags, phases, stateKept, Case}
 use Rattle.vectors.specs.Records.{variables, smallest, nodes}
@@ -89,16 +88,18 @@ named n = n .number ∷ n .record′ ∷ []
 unfoldable pub lentAfter : State → Card → List ℕ
 lentAfter s c = getD (s .status) 3 0 ∷ c .serial ∷ c .phase ∷ []
 
+unfoldable pub unrun : RunReply → List (List ℕ)
+unrun r = named (runNumber (r .ran .answer)) ∷ lentAfter (r .ran .state) (r .ran .card) ∷ (r .ran .steps ∷ r .ran .next ∷ r .list) ∷ []
+
 unfoldable pub refusedBy : List ℕ → List (List ℕ)
 refusedBy p =
     let f = freshReply p lent card in
-    let r = runReply p lent card 100 (5 ∷ 6 ∷ []) 1 in
-    let t = takeReply p lent card (event 9 []) in
-    named (verdictNumber (f .verdict)) ∷ lentAfter (f .state) (f .card) ∷ named (runNumber (r .ran .answer)) ∷ lentAfter (r .ran .state) (r .ran .card)
-    ∷ (r .ran .steps ∷ r .ran .next ∷ r .list) ∷ named (takeNumber (t .answer)) ∷ lentAfter (t .state) (t .card) ∷ []
+    named (verdictNumber (f .verdict)) ∷ lentAfter (f .state) (f .card)
+    ∷ (unrun (runReply p lent card 100 (5 ∷ 6 ∷ []) 1) ++ unrun (turnReply p lent card (event 9 []) 100 (5 ∷ 6 ∷ []) 1))
 
 unfoldable pub refusedExpected : ℕ → ℕ → List (List ℕ)
-refusedExpected n i = (n ∷ i ∷ []) ∷ (5 ∷ 9 ∷ 2 ∷ []) ∷ (n ∷ i ∷ []) ∷ (5 ∷ 9 ∷ 2 ∷ []) ∷ (0 ∷ 1 ∷ 5 ∷ 6 ∷ []) ∷ (n ∷ i ∷ []) ∷ (5 ∷ 9 ∷ 2 ∷ []) ∷ []
+refusedExpected n i =
+    (n ∷ i ∷ []) ∷ (5 ∷ 9 ∷ 2 ∷ []) ∷ (n ∷ i ∷ []) ∷ (5 ∷ 9 ∷ 2 ∷ []) ∷ (0 ∷ 1 ∷ 5 ∷ 6 ∷ []) ∷ (n ∷ i ∷ []) ∷ (5 ∷ 9 ∷ 2 ∷ []) ∷ (0 ∷ 1 ∷ 5 ∷ 6 ∷ []) ∷ []
 
 unfoldable pub refusedAll : List (List (List ℕ))
 refusedAll = refusedBy [] ∷ refusedBy (set nodes 92 3) ∷ []
@@ -111,15 +112,15 @@ unfoldable pub numbers : List (List ℕ)
 numbers =
     map named
     (verdictNumber check.Admitted ∷ verdictNumber (check.Refused rule.Reach 8) ∷ runNumber (ran.Refused rule.Short 0) ∷ runNumber (ran.Refused rule.Kind 7) ∷ runNumber ran.State
-    ∷ runNumber ran.Place ∷ runNumber ran.NoRoom ∷ runNumber ran.Spent ∷ runNumber ran.Quiet ∷ takeNumber (take.Refused rule.Deep 6) ∷ takeNumber take.State ∷ takeNumber take.Busy
-    ∷ takeNumber take.Shape ∷ takeNumber take.Turn ∷ takeNumber (take.Entry 5) ∷ takeNumber (take.Twice 4) ∷ takeNumber (take.NotAwaited 3) ∷ takeNumber take.Accepted ∷ [])
+    ∷ runNumber ran.Place ∷ runNumber ran.Busy ∷ runNumber ran.Shape ∷ runNumber ran.Turn ∷ runNumber (ran.Entry 5) ∷ runNumber (ran.Twice 4) ∷ runNumber (ran.NotAwaited 3)
+    ∷ runNumber ran.NoRoom ∷ runNumber ran.Spent ∷ runNumber ran.Quiet ∷ [])
 
 unfoldable pub numbersExpected : List (List ℕ)
 numbersExpected =
-    (0 ∷ 0 ∷ []) ∷ (12 ∷ 8 ∷ []) ∷ (1 ∷ 0 ∷ []) ∷ (11 ∷ 7 ∷ []) ∷ (30 ∷ 0 ∷ []) ∷ (31 ∷ 0 ∷ []) ∷ (32 ∷ 0 ∷ []) ∷ (0 ∷ 0 ∷ []) ∷ (0 ∷ 0 ∷ []) ∷ (10 ∷ 6 ∷ [])
-    ∷ (30 ∷ 0 ∷ []) ∷ (20 ∷ 0 ∷ []) ∷ (21 ∷ 0 ∷ []) ∷ (22 ∷ 0 ∷ []) ∷ (23 ∷ 5 ∷ []) ∷ (24 ∷ 4 ∷ []) ∷ (25 ∷ 3 ∷ []) ∷ (0 ∷ 0 ∷ []) ∷ []
+    (0 ∷ 0 ∷ []) ∷ (12 ∷ 8 ∷ []) ∷ (1 ∷ 0 ∷ []) ∷ (11 ∷ 7 ∷ []) ∷ (30 ∷ 0 ∷ []) ∷ (31 ∷ 0 ∷ []) ∷ (20 ∷ 0 ∷ []) ∷ (21 ∷ 0 ∷ []) ∷ (22 ∷ 0 ∷ []) ∷ (23 ∷ 5 ∷ []) ∷ (24 ∷ 4 ∷ [])
+    ∷ (25 ∷ 3 ∷ []) ∷ (32 ∷ 0 ∷ []) ∷ (0 ∷ 0 ∷ []) ∷ (0 ∷ 0 ∷ []) ∷ []
 
 -- opens every definition of this file
 unfoldable pub opened : Unit {0}
-unfolding fresh budgets pair noRooms stepsKept placed following beyond lookupKept runsAll lent card named lentAfter refusedBy refusedExpected refusedAll refusedAllExpected numbers numbersExpected
+unfolding fresh budgets pair noRooms stepsKept placed following beyond lookupKept runsAll lent card named lentAfter unrun refusedBy refusedExpected refusedAll refusedAllExpected numbers numbersExpected
 opened = tt

@@ -6,7 +6,7 @@ use Rattle.plexil.specs.declared.RunAnswer.the-variants as ran
 use Rattle.plexil.specs.Places.{freshState}
 use Rattle.plexil.specs.Micro.{step}
 use Rattle.plexil.specs.Assemble.{no, plain, only, aList, aCommand, anAssignment, node, expr, const, variable, lookup, plan, entry, event}
-use Rattle.plexil.specs.Play.{runs, takes, holds, stands, keeps, statuses, outcomes, failures, marks, varTags, varBits, lookTags, lookBits, stateKept, Case}
+use Rattle.plexil.specs.Play.{runs, turnsWith, enters, holds, stands, keeps, statuses, outcomes, failures, marks, varTags, varBits, lookTags, lookBits, stateKept, Case}
 use Rattle.vectors.specs.Rules.{steps, both}
 
 -- "Starting a waiting child under a Finishing parent" is an error: with End True at once the child never starts
@@ -24,7 +24,7 @@ closing = plan (aList no (both 3 1 4 0) ∷ aCommand 0 (only 6 2) ∷ []) (expr 
 unfoldable pub closes : Case
 closes = record {
   image = closing;
-  turns = runs ran.Quiet 4 (2 ∷ []) ∷ stands 0 3 0 0 ∷ stands 1 2 0 0 ∷ takes (event 0 (entry 2 1 0 ∷ [])) 0 0 ∷ steps 1 ∷ stands 0 3 0 0 ∷ stands 1 5 1 0 ∷ steps 1
+  turns = runs ran.Quiet 4 (2 ∷ []) ∷ stands 0 3 0 0 ∷ stands 1 2 0 0 ∷ enters (event 0 (entry 2 1 0 ∷ [])) 0 0 ∷ steps 1 ∷ stands 0 3 0 0 ∷ stands 1 5 1 0 ∷ steps 1
       ∷ stands 0 3 0 0 ∷ stands 1 6 1 0 ∷ steps 1 ∷ stands 0 5 1 0 ∷ runs ran.Quiet 1 [] ∷ stands 0 6 1 0 ∷ [];
 }
 
@@ -32,8 +32,8 @@ closes = record {
 unfoldable pub failsWhileClosing : Case
 failsWhileClosing = record {
   image = closing;
-  turns = runs ran.Quiet 4 (2 ∷ []) ∷ takes (event 0 (entry 0 0 0 ∷ [])) 0 0 ∷ steps 1 ∷ stands 0 4 2 3 ∷ stands 1 2 0 0 ∷ runs ran.Quiet 1 (3 ∷ []) ∷ stands 1 4 2 4
-      ∷ takes (event 1 (entry 2 1 0 ∷ [])) 0 0 ∷ steps 2 ∷ stands 0 4 2 3 ∷ stands 1 6 2 4 ∷ steps 1 ∷ stands 0 5 2 3 ∷ runs ran.Quiet 1 [] ∷ stands 0 6 2 3 ∷ [];
+  turns = runs ran.Quiet 4 (2 ∷ []) ∷ enters (event 0 (entry 0 0 0 ∷ [])) 0 0 ∷ steps 1 ∷ stands 0 4 2 3 ∷ stands 1 2 0 0 ∷ runs ran.Quiet 1 (3 ∷ []) ∷ stands 1 4 2 4
+      ∷ enters (event 1 (entry 2 1 0 ∷ [])) 0 0 ∷ steps 2 ∷ stands 0 4 2 3 ∷ stands 1 6 2 4 ∷ steps 1 ∷ stands 0 5 2 3 ∷ runs ran.Quiet 1 [] ∷ stands 0 6 2 3 ∷ [];
 }
 
 -- "parent Failing gives failure Parent", down through a Finishing list to a command, and in an assignment that has not ended, whose Inv is False then
@@ -41,7 +41,7 @@ unfoldable pub failsBelow : Case
 failsBelow = record {
   image = plan (aList no (only 3 0) ∷ aList 0 (only 4 1) ∷ aCommand 1 plain ∷ anAssignment 0 0 (both 3 3 4 4) 0 5 ∷ [])
       (expr 2 0 0 0 0 ∷ expr 3 0 2 2 0 ∷ expr 3 0 0 4 0 ∷ expr 6 0 2 0 0 ∷ const 0 0 ∷ const 1 10 ∷ []) (variable 1 1 0 1 ∷ []) (lookup 0 ∷ []);
-  turns = runs ran.Quiet 6 (4 ∷ []) ∷ stands 1 3 0 0 ∷ stands 2 2 0 0 ∷ stands 3 2 0 0 ∷ takes (event 0 (entry 0 0 0 ∷ [])) 0 0 ∷ steps 1 ∷ stands 0 4 2 3 ∷ stands 1 3 0 0
+  turns = runs ran.Quiet 6 (4 ∷ []) ∷ stands 1 3 0 0 ∷ stands 2 2 0 0 ∷ stands 3 2 0 0 ∷ enters (event 0 (entry 0 0 0 ∷ [])) 0 0 ∷ steps 1 ∷ stands 0 4 2 3 ∷ stands 1 3 0 0
       ∷ stands 3 2 0 0 ∷ steps 1 ∷ stands 1 4 2 4 ∷ stands 3 5 2 4 ∷ holds 0 2 1 ∷ runs ran.Quiet 1 (5 ∷ []) ∷ stands 2 4 2 4 ∷ stands 3 6 2 4 ∷ stands 0 4 2 3 ∷ [];
 }
 
@@ -49,7 +49,7 @@ failsBelow = record {
 unfoldable pub failsWithWaiting : Case
 failsWithWaiting = record {
   image = plan (aList no (only 3 0) ∷ aCommand 0 (only 1 1) ∷ []) (expr 2 0 0 0 0 ∷ const 0 0 ∷ []) [] (lookup 0 ∷ []);
-  turns = runs ran.Quiet 2 [] ∷ takes (event 0 (entry 0 0 0 ∷ [])) 0 0 ∷ runs ran.Quiet 3 [] ∷ stands 0 6 2 3 ∷ stands 1 1 0 0 ∷ [];
+  turns = runs ran.Quiet 2 [] ∷ turnsWith (event 0 (entry 0 0 0 ∷ [])) ran.Quiet 3 [] ∷ stands 0 6 2 3 ∷ stands 1 1 0 0 ∷ [];
 }
 
 -- "What a rule does not name stays": the outcomes and failures that the host kept, to Executing and Finishing, and from Inactive to Waiting
@@ -108,7 +108,7 @@ unfoldable pub noWriters : Case
 noWriters = record {
   image = plan (aList no plain ∷ node 0 1 0 plain 0 no ∷ node 0 1 0 plain 0 no ∷ anAssignment 0 0 (only 4 0) 0 1 ∷ []) (expr 4 0 1 1 0 ∷ const 1 10 ∷ expr 0 1 0 0 0 ∷ [])
       (variable 1 1 0 1 ∷ []) [];
-  turns = runs ran.Quiet 3 (2 ∷ 4 ∷ []) ∷ takes (event 0 (entry 2 1 0 ∷ entry 2 2 0 ∷ [])) 0 0 ∷ steps 1 ∷ stands 1 5 1 0 ∷ stands 2 5 1 0 ∷ stands 3 2 0 0 ∷ holds 0 2 1 ∷ steps 1
+  turns = runs ran.Quiet 3 (2 ∷ 4 ∷ []) ∷ enters (event 0 (entry 2 1 0 ∷ entry 2 2 0 ∷ [])) 0 0 ∷ steps 1 ∷ stands 1 5 1 0 ∷ stands 2 5 1 0 ∷ stands 3 2 0 0 ∷ holds 0 2 1 ∷ steps 1
       ∷ stands 1 6 1 0 ∷ stands 3 5 1 0 ∷ holds 0 2 10 ∷ [];
 }
 
