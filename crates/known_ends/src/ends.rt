@@ -55,7 +55,7 @@ fn issue(name: &[u8], image: &[u8]) -> Ran {
 fn returned(image: &[u8], r: Ran, serial: u32, node: u32) {
     let event = drawings::single(serial, 2, node);
     let mut list = [9u32; 4];
-    let s = after(image, r.state, r.card, &event, &mut list);
+    let s = after(image, r, &event, 100, &mut list);
     run_end(s);
     telling::root(s.state);
 }
@@ -96,7 +96,7 @@ fn k8() {
 fn is_false(image: &[u8], r: Ran) -> Ran {
     let event = drawings::single(0, 0, 0);
     let mut list = [9u32; 4];
-    let s = after(image, r.state, r.card, &event, &mut list);
+    let s = after(image, r, &event, 100, &mut list);
     run_end(s);
     telling::word(list[0]);
     s

@@ -28,6 +28,6 @@ pub(crate) fn image(name: &[u8], image: &[u8]) {
     telling::judge(name, image);
     telling::fresh(image, marked(), held());
     telling::run(image, marked(), held(), 2);
-    telling::take(image, marked(), held(), b"");
+    telling::turn(image, marked(), held(), b"", 2);
     telling::end();
 }

@@ -15,7 +15,7 @@ pub check-exit : {x : Report} {r q : Checked} → x ≡ verdictReport (r .verdic
 unfolding verdictReport
 check-exit {x} {r} {q} h e = (λ t. record { number = h t .number; report = h t; counts = r .counts }) ∙ ap checkExit e
 
--- for the exit of a fresh start, of a run and of an event
+-- for the exit of a fresh start, of a run and of a turn
 pub turn-exit : {R : Type 0} (exit : R → TurnExit) {x : Report} {r q : R} → exit r .report .number ≡ exit r .number → x ≡ exit r .report → r ≡ q
     → _≡_ {A = TurnExit} (record { number = x .number; report = x; state = exit r .state; card = exit r .card }) (exit q)
 turn-exit exit {x} {r} {q} n h e =

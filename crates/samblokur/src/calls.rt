@@ -1,14 +1,13 @@
 // The calls by value: what each leaves at exit, its answer as a report.
 use super::reports::Report;
 use super::reports::run_report;
-use super::reports::take_report;
 use super::reports::verdict_report;
 use plexil::Card;
 use plexil::Counts;
 use plexil::State;
 ghost use mathlib.Core.Path.{_≡_};
-ghost use Rattle.plexil.specs.Replies.{checkReply, freshReply, runReply, takeReply};
-ghost use Rattle.samblokur.specs.Exits.{checkExit, freshExit, runExit, takeExit};
+ghost use Rattle.plexil.specs.Replies.{checkReply, freshReply, runReply, turnReply};
+ghost use Rattle.samblokur.specs.Exits.{checkExit, freshExit, runExit};
 
 // What a check leaves: the number it returns, the report and the counts.
 pub struct CheckExit {
@@ -17,7 +16,7 @@ pub struct CheckExit {
     pub counts: Counts,
 }
 
-// What a fresh start, a run or an event leaves: the number it returns, the report, the state and the turn card.
+// What a fresh start, a run or a turn leaves: the number it returns, the report, the state and the turn card.
 pub struct TurnExit {
     pub number: u32,
     pub report: Report,
@@ -79,12 +78,21 @@ pub fn run(
     }
 }
 
-pub fn take(image: &[u8], state: State, card: Card, event: &[u8]) -> TurnExit
-    ensures { λ r. ⌜ r ≡ takeExit (takeReply (now (image .entry)) state card (now (event .entry))) ⌝ }
+pub fn turn(
+    image: &[u8],
+    state: State,
+    card: Card,
+    event: &[u8],
+    budget: u16,
+    list: &mut [u32],
+    start: usize,
+) -> TurnExit
+    ensures { λ r. ⌜ (r ≡ runExit (turnReply (now (image .entry)) state card (now (event .entry)) budget (now (list .entry)) start .ran))
+        × (now (list .exit) ≡ turnReply (now (image .entry)) state card (now (event .entry)) budget (now (list .entry)) start .list) ⌝ }
 {
-    let reply = turns::take(image, state, card, event);
+    let reply = turns::turn(image, state, card, event, budget, list, start);
     let answer = reply.answer;
-    let report = take_report(answer);
+    let report = run_report(answer, reply.steps, reply.next);
     let state = reply.state;
     let card = reply.card;
     TurnExit {

@@ -5,8 +5,8 @@ use plexil::Card;
 use plexil::Counts;
 use plexil::State;
 ghost use mathlib.Core.Path.{_≡_};
-ghost use Rattle.plexil.specs.Replies.{checkReply, freshReply, runReply, takeReply};
-ghost use Rattle.samblokur.specs.Exits.{checkExit, freshExit, runExit, takeExit};
+ghost use Rattle.plexil.specs.Replies.{checkReply, freshReply, runReply, turnReply};
+ghost use Rattle.samblokur.specs.Exits.{checkExit, freshExit, runExit};
 
 // Checks a plan image.
 #[no_mangle]
@@ -65,21 +65,25 @@ pub extern "C" fn samblokur_run(
     r.number
 }
 
-// Takes an event; no step is done.
+// One call per report: the event enters, and the run begins.
 #[no_mangle]
-pub extern "C" fn samblokur_take(
+pub extern "C" fn samblokur_turn(
     image: &[u8],
     state: &mut State,
     card: &mut Card,
     event: &[u8],
+    budget: u16,
+    list: &mut [u32],
+    start: usize,
     report: &mut Report,
 ) -> u32
-    ensures { λ r. ⌜ (r ≡ takeExit (takeReply (now (image .entry)) (now (state .entry)) (now (card .entry)) (now (event .entry))) .number)
-        × (now (state .exit) ≡ takeExit (takeReply (now (image .entry)) (now (state .entry)) (now (card .entry)) (now (event .entry))) .state)
-        × (now (card .exit) ≡ takeExit (takeReply (now (image .entry)) (now (state .entry)) (now (card .entry)) (now (event .entry))) .card)
-        × (now (report .exit) ≡ takeExit (takeReply (now (image .entry)) (now (state .entry)) (now (card .entry)) (now (event .entry))) .report) ⌝ }
+    ensures { λ r. ⌜ (r ≡ runExit (turnReply (now (image .entry)) (now (state .entry)) (now (card .entry)) (now (event .entry)) budget (now (list .entry)) start .ran) .number)
+        × (now (state .exit) ≡ runExit (turnReply (now (image .entry)) (now (state .entry)) (now (card .entry)) (now (event .entry)) budget (now (list .entry)) start .ran) .state)
+        × (now (card .exit) ≡ runExit (turnReply (now (image .entry)) (now (state .entry)) (now (card .entry)) (now (event .entry)) budget (now (list .entry)) start .ran) .card)
+        × (now (report .exit) ≡ runExit (turnReply (now (image .entry)) (now (state .entry)) (now (card .entry)) (now (event .entry)) budget (now (list .entry)) start .ran) .report)
+        × (now (list .exit) ≡ turnReply (now (image .entry)) (now (state .entry)) (now (card .entry)) (now (event .entry)) budget (now (list .entry)) start .list) ⌝ }
 {
-    let r = calls::take(image, *state, *card, event);
+    let r = calls::turn(image, *state, *card, event, budget, list, start);
     *state = r.state;
     *card = r.card;
     *report = r.report;

@@ -1,12 +1,11 @@
 // The report of each answer: its number, the record it names, and how the call ended.
 use admit::rule_number;
 use plexil::RunAnswer;
-use plexil::TakeAnswer;
 use plexil::Verdict;
 ghost use mathlib.Core.Path.{_≡_};
-ghost use Rattle.samblokur.specs.Reports.{reportOf, verdictReport, runReport, takeReport};
+ghost use Rattle.samblokur.specs.Reports.{reportOf, verdictReport, runReport};
 
-// What a call tells its host beside what it changes. ending: 0 refused; 1 Quiet, or an accepted check, fresh start or event; 2 Spent.
+// What a call tells its host beside what it changes. ending: 0 refused; 1 Quiet, or an accepted check or fresh start; 2 Spent.
 #[repr(C)]
 pub struct Report {
     pub number: u32,
@@ -51,6 +50,7 @@ pub fn verdict_report(v: Verdict) -> Report
     }
 }
 
+// The report of a run, and of a turn.
 pub fn run_report(answer: RunAnswer, steps: u16, next: usize) -> Report
     ensures { λ r. ⌜ r ≡ runReport answer steps next ⌝ }
 {
@@ -58,24 +58,14 @@ pub fn run_report(answer: RunAnswer, steps: u16, next: usize) -> Report
         RunAnswer::Refused(rule, i) => refused(rule_number(rule), i, steps, next),
         RunAnswer::State => refused(30, 0, steps, next),
         RunAnswer::Place => refused(31, 0, steps, next),
+        RunAnswer::Busy => refused(20, 0, steps, next),
+        RunAnswer::Shape => refused(21, 0, steps, next),
+        RunAnswer::Turn => refused(22, 0, steps, next),
+        RunAnswer::Entry(k) => refused(23, k, steps, next),
+        RunAnswer::Twice(k) => refused(24, k, steps, next),
+        RunAnswer::NotAwaited(k) => refused(25, k, steps, next),
         RunAnswer::NoRoom => refused(32, 0, steps, next),
         RunAnswer::Spent => done(2, steps, next),
         RunAnswer::Quiet => done(1, steps, next),
-    }
-}
-
-pub fn take_report(answer: TakeAnswer) -> Report
-    ensures { λ r. ⌜ r ≡ takeReport answer ⌝ }
-{
-    match answer {
-        TakeAnswer::Refused(rule, i) => refused(rule_number(rule), i, 0, 0),
-        TakeAnswer::State => refused(30, 0, 0, 0),
-        TakeAnswer::Busy => refused(20, 0, 0, 0),
-        TakeAnswer::Shape => refused(21, 0, 0, 0),
-        TakeAnswer::Turn => refused(22, 0, 0, 0),
-        TakeAnswer::Entry(k) => refused(23, k, 0, 0),
-        TakeAnswer::Twice(k) => refused(24, k, 0, 0),
-        TakeAnswer::NotAwaited(k) => refused(25, k, 0, 0),
-        TakeAnswer::Accepted => done(1, 0, 0),
     }
 }

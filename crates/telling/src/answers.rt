@@ -3,7 +3,6 @@ use super::print;
 use plexil::Ran;
 use plexil::Rule;
 use plexil::RunAnswer;
-use plexil::TakeAnswer;
 use plexil::Verdict;
 
 fn rule_number(rule: Rule) -> u64 {
@@ -46,27 +45,19 @@ fn run_answer(a: RunAnswer) {
         RunAnswer::Refused(rule, i) => refused(rule, i),
         RunAnswer::State => print::text(b" 30 0"),
         RunAnswer::Place => print::text(b" 31 0"),
+        RunAnswer::Busy => print::text(b" 20 0"),
+        RunAnswer::Shape => print::text(b" 21 0"),
+        RunAnswer::Turn => print::text(b" 22 0"),
+        RunAnswer::Entry(k) => named(23, k),
+        RunAnswer::Twice(k) => named(24, k),
+        RunAnswer::NotAwaited(k) => named(25, k),
         RunAnswer::NoRoom => print::text(b" 32 0"),
         RunAnswer::Spent => print::text(b" spent"),
         RunAnswer::Quiet => print::text(b" quiet"),
     }
 }
 
-pub fn take_answer(a: TakeAnswer) {
-    match a {
-        TakeAnswer::Refused(rule, i) => refused(rule, i),
-        TakeAnswer::State => print::text(b" 30 0"),
-        TakeAnswer::Busy => print::text(b" 20 0"),
-        TakeAnswer::Shape => print::text(b" 21 0"),
-        TakeAnswer::Turn => print::text(b" 22 0"),
-        TakeAnswer::Entry(k) => named(23, k),
-        TakeAnswer::Twice(k) => named(24, k),
-        TakeAnswer::NotAwaited(k) => named(25, k),
-        TakeAnswer::Accepted => print::text(b" accepted"),
-    }
-}
-
-// How a run ended and after how many steps.
+// How a run or a turn ended and after how many steps.
 pub fn run_end(r: Ran) {
     let a = r.answer;
     run_answer(a);

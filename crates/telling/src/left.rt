@@ -6,6 +6,7 @@ use super::print::kept;
 use super::print::number;
 use super::print::text;
 use plexil::Card;
+use plexil::Ran;
 use plexil::State;
 
 pub fn fresh(image: &[u8], state: State, card: Card) {
@@ -16,27 +17,44 @@ pub fn fresh(image: &[u8], state: State, card: Card) {
     kept(same(state, card, r.state, r.card));
 }
 
-// A run with budget 100 over a list of four places, and whether it leaves this state and card, and the list as it was.
-pub fn run_to(image: &[u8], s: State, c: Card, start: usize, state: State, card: Card) {
+// What a run or a turn answered, and whether it left this state and card, and the list as it was.
+fn told(r: Ran, list: &[u32], state: State, card: Card) {
     let before = [9u32; 4];
-    let mut list = [9u32; 4];
-    let r = turns::run(image, s, c, 100, &mut list, start);
-    text(b", run");
     answers::run_end(r);
     text(b" next");
     number(r.next as u64);
     kept(same(state, card, r.state, r.card));
-    kept(same_words(&before, &list));
+    kept(same_words(&before, list));
+}
+
+// A run with budget 100 over a list of four places, which should leave this state and card.
+pub fn run_to(image: &[u8], s: State, c: Card, start: usize, state: State, card: Card) {
+    let mut list = [9u32; 4];
+    let r = turns::run(image, s, c, 100, &mut list, start);
+    text(b", run");
+    told(r, &list, state, card);
 }
 
 pub fn run(image: &[u8], state: State, card: Card, start: usize) {
     run_to(image, state, card, start, state, card);
 }
 
-pub fn take(image: &[u8], state: State, card: Card, event: &[u8]) {
-    let r = turns::take(image, state, card, event);
-    let a = r.answer;
-    text(b", take");
-    answers::take_answer(a);
-    kept(same(state, card, r.state, r.card));
+// A turn with this event, else as above.
+pub fn turn_to(
+    image: &[u8],
+    s: State,
+    c: Card,
+    event: &[u8],
+    start: usize,
+    state: State,
+    card: Card,
+) {
+    let mut list = [9u32; 4];
+    let r = turns::turn(image, s, c, event, 100, &mut list, start);
+    text(b", turn");
+    told(r, &list, state, card);
+}
+
+pub fn turn(image: &[u8], state: State, card: Card, event: &[u8], start: usize) {
+    turn_to(image, state, card, event, start, state, card);
 }

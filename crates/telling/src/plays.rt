@@ -50,10 +50,7 @@ pub fn check(name: &[u8], image: &[u8]) {
     print::end();
 }
 
-// The next turn: an event, then a run with budget 100 from the list's first place.
-pub fn after(image: &[u8], state: State, card: Card, event: &[u8], list: &mut [u32]) -> Ran {
-    let taken = turns::take(image, state, card, event);
-    let state = taken.state;
-    let card = taken.card;
-    turns::run(image, state, card, 100, list, 0)
+// The next turn: an event, with this budget from the list's first place.
+pub fn after(image: &[u8], r: Ran, event: &[u8], budget: u16, list: &mut [u32]) -> Ran {
+    turns::turn(image, r.state, r.card, event, budget, list, 0)
 }

@@ -1,12 +1,10 @@
--- Laws of the replies: the verdict that a check's reply carries, and each reply by it.
-use Prim.Native.Nat.{ℕ}
-use mathlib.Core.Path.{_≡_, refl, sym, ap, _∙_}
+-- Laws of the replies: the verdict that a check's reply carries, the tests before a run and a turn, and each reply by what they answer.
+use Prim.Native.Nat.{ℕ, _≤_}
+use mathlib.Core.Path.{_≡_, refl, sym, ap, _∙_, subst}
 use mathlib.Core.Bool.{true, false}
 use mathlib.Core.List.{List}
-use native.Mathlib.Omega.{arith}
 use lib.ListN.{length}
-use lib.Dec.{eqb, ltb}
-use borrow.Author.Tests.{ne-eqb}
+use lib.Dec.{ltb}
 use Rattle.plexil.specs.declared.State.{State}
 use Rattle.plexil.specs.declared.Card.{Card}
 use Rattle.plexil.specs.declared.Rule.{Rule}
@@ -15,19 +13,23 @@ use Rattle.plexil.specs.declared.Verdict.the-variants.{Admitted, Refused}
 use Rattle.plexil.specs.declared.Checked.{Checked}
 use Rattle.plexil.specs.declared.Started.{Started}
 use Rattle.plexil.specs.declared.Ran.{Ran}
+use Rattle.plexil.specs.declared.RunAnswer.{RunAnswer}
 use Rattle.plexil.specs.declared.RunAnswer.the-variants as ran
-use Rattle.plexil.specs.declared.Taken.{Taken}
-use Rattle.plexil.specs.declared.TakeAnswer.{TakeAnswer}
-use Rattle.plexil.specs.declared.TakeAnswer.the-variants as take
+use Rattle.plexil.specs.declared.Tested.{Tested}
+use Rattle.plexil.specs.declared.Tested.the-variants as test
 use Rattle.plexil.specs.Image.{Image}
 use Rattle.plexil.specs.Places.{freshState, freshCard}
-use Rattle.plexil.specs.Check.{ruleNumber, verdict}
+use Rattle.plexil.specs.Check.{verdict}
 use Rattle.plexil.specs.Quiescence.{run}
 use Rattle.plexil.specs.Form.{goodKept}
-use Rattle.plexil.specs.Macro.{entered, entryCount, cardAfter}
-use Rattle.plexil.specs.Replies.{numbered, takeNumber, checkedBy, checkReply, startedBy, freshReply, RunReply, notRun, hasRun, ranBy, runReply, takenBy, takeAnswer, takeReply}
+use Rattle.plexil.specs.Macro.{eventAnswer, entered, entryCount, cardAfter}
+use Rattle.plexil.specs.Replies.{checkedBy, checkReply, startedBy, freshReply, runTest, andThen, turnTest, RunReply, notRun, hasRun, ranBy, runReply, hasTurned, turnReply}
+use Rattle.plexil.specs.Promises.{IsAdmitted, IsKept, Sized}
 use Rattle.plexil.proofs.ListLaws.{if-true, if-false}
-use Rattle.plexil.proofs.ReplyLaws.{rule-range}
+use Rattle.plexil.proofs.Accepted.{not-accepted}
+use Rattle.plexil.proofs.ReplyLaws.{test-either}
+use Rattle.plexil.proofs.EventKept.{event-kept}
+use Rattle.plexil.proofs.Sessions.{kept-of}
 use Rattle.turns.specs.Ended.{unrun}
 
 by-verdict : (v : Verdict) (p : Image) → checkedBy v p .verdict ≡ v
@@ -50,53 +52,85 @@ pub fresh-refused : (p : Image) (s : State) (c : Card) (r : Rule) (i : ℕ) → 
 unfolding freshReply startedBy
 fresh-refused p s c r i e = rw e
 
--- ---- the taking of an event
--- rule numbers begin at 1
-pub not-accepted : (r : Rule) (i : ℕ) → eqb (takeNumber (take.Refused r i) .number) 0 ≡ false
-unfolding takeNumber numbered
-not-accepted r i = ne-eqb (ruleNumber r) 0 (λ e. omega (arith, rule-range r .0))
+-- ---- the tests before a run
+pub test-admitted-is : (p : Image) (s : State) (c : Card) (n k : ℕ) → verdict p ≡ Admitted → runTest Admitted p s c n k ≡ runTest (verdict p) p s c n k
+test-admitted-is p s c n k e = ap (λ (v : Verdict). runTest v p s c n k) (sym e)
 
-module _ (a : TakeAnswer) (p : Image) (s : State) (c : Card) (b : List ℕ) where
-  pub taken-accepted : eqb (takeNumber a .number) 0 ≡ true → {x : State} {d : Card} → x ≡ entered p b (entryCount b) s → d ≡ cardAfter c
-      → _≡_ {A = Taken} (record { answer = a; state = x; card = d }) (takenBy a p s c b)
-  unfolding takenBy
-  taken-accepted t e h = (λ k. record { answer = a; state = e k; card = h k }) ∙ sym (if-true _ _ _ t)
+pub test-refused-is : (p : Image) (s : State) (c : Card) (n k : ℕ) (r : Rule) (i : ℕ) → verdict p ≡ Refused r i → test.Refused (ran.Refused r i) ≡ runTest (verdict p) p s c n k
+unfolding runTest
+test-refused-is p s c n k r i e = ap (λ (v : Verdict). runTest v p s c n k) (sym e)
 
-  pub taken-refused : eqb (takeNumber a .number) 0 ≡ false → _≡_ {A = Taken} (record { answer = a; state = s; card = c }) (takenBy a p s c b)
-  unfolding takenBy
-  taken-refused t = sym (if-false _ _ _ t)
+module _ (p : Image) (s : State) (c : Card) (n k : ℕ) where
+  pub test-state : goodKept p s c ≡ false → test.Refused ran.State ≡ runTest Admitted p s c n k
+  unfolding runTest
+  test-state f = sym (if-false _ _ _ f)
 
-pub take-admitted : (p : Image) (s : State) (c : Card) (b : List ℕ) → verdict p ≡ Admitted → {a : TakeAnswer} → a ≡ takeAnswer Admitted p s c b
-    → {r : Taken} → r ≡ takenBy a p s c b → r ≡ takeReply p s c b
-unfolding takeReply
-take-admitted p s c b e h g = g ∙ (ap (λ (x : TakeAnswer). takenBy x p s c b) h ∙ ap (λ (v : Verdict). takenBy (takeAnswer v p s c b) p s c b) (sym e))
+  pub test-place : goodKept p s c ≡ true → ltb n k ≡ true → test.Refused ran.Place ≡ runTest Admitted p s c n k
+  unfolding runTest
+  test-place g t = sym (if-true _ _ _ g ∙ if-true _ _ _ t)
 
-pub take-refused : (p : Image) (s : State) (c : Card) (b : List ℕ) (r : Rule) (i : ℕ) → verdict p ≡ Refused r i → _≡_ {A = Taken} (record { answer = take.Refused r i; state = s; card = c }) (takeReply p s c b)
-unfolding takeReply takeAnswer
-take-refused p s c b r i e = rw e (taken-refused _ p s c b (not-accepted r i))
+  pub test-passed : goodKept p s c ≡ true → ltb n k ≡ false → test.Accepted ≡ runTest Admitted p s c n k
+  unfolding runTest
+  test-passed g t = sym (if-true _ _ _ g ∙ if-false _ _ _ t)
 
--- ---- a run
-pub run-admitted-is : (p : Image) (s : State) (c : Card) (n : ℕ) (l : List ℕ) (k : ℕ) → verdict p ≡ Admitted → ranBy Admitted p s c n l k ≡ runReply p s c n l k
-unfolding runReply
-run-admitted-is p s c n l k e = ap (λ (v : Verdict). ranBy v p s c n l k) (sym e)
+-- ---- the tests before a turn
+module _ (p : Image) (s : State) (c : Card) (b : List ℕ) (n k : ℕ) {t : Tested} (e : t ≡ runTest (verdict p) p s c n k) where
+  pub turn-first : (a : RunAnswer) → t ≡ test.Refused a → test.Refused a ≡ turnTest (verdict p) p s c b n k
+  unfolding turnTest andThen
+  turn-first a h = ap (λ (u : Tested). andThen u (eventAnswer p s c b)) (sym h ∙ e)
 
-pub run-refused : (p : Image) (s : State) (c : Card) (n : ℕ) (l : List ℕ) (k : ℕ) (r : Rule) (i : ℕ) → verdict p ≡ Refused r i → {x : Ran} → x ≡ unrun (ran.Refused r i) k s c
-    → (x ≡ runReply p s c n l k .ran) × (l ≡ runReply p s c n l k .list)
-unfolding runReply ranBy notRun
-run-refused p s c n l k r i e h = (h ∙ ap (λ (v : Verdict). ranBy v p s c n l k .ran) (sym e), ap (λ (v : Verdict). ranBy v p s c n l k .list) (sym e))
+  pub turn-event : t ≡ test.Accepted → eventAnswer p s c b ≡ turnTest (verdict p) p s c b n k
+  unfolding turnTest andThen
+  turn-event h = ap (λ (u : Tested). andThen u (eventAnswer p s c b)) (sym h ∙ e)
 
-module _ (p : Image) (s : State) (c : Card) (n : ℕ) (l : List ℕ) (k : ℕ) where
-  pub run-state : goodKept p s c ≡ false → {x : Ran} → x ≡ unrun ran.State k s c → (x ≡ ranBy Admitted p s c n l k .ran) × (l ≡ ranBy Admitted p s c n l k .list)
-  unfolding ranBy notRun
-  run-state f h = (h ∙ sym (ap (λ (r : RunReply). r .ran) (if-false _ _ _ f)), sym (ap (λ (r : RunReply). r .list) (if-false _ _ _ f)))
+-- ---- what passes them
+pub record Passing (p : Image) (s : State) (c : Card) (l : List ℕ) (k : ℕ) : Type 0 where
+  pub admitted : IsAdmitted p
+  pub good : goodKept p s c ≡ true
+  pub room : k ≤ length l
 
-  module _ (g : goodKept p s c ≡ true) where
-    pub run-place : ltb (length l) k ≡ true → {x : Ran} → x ≡ unrun ran.Place k s c → (x ≡ ranBy Admitted p s c n l k .ran) × (l ≡ ranBy Admitted p s c n l k .list)
-    unfolding ranBy notRun
-    run-place t h =
-        let e = if-true _ _ (notRun ran.State s c l k) g ∙ if-true _ _ (hasRun c (run p s n l k)) t in
-        (h ∙ sym (ap (λ (r : RunReply). r .ran) e), sym (ap (λ (r : RunReply). r .list) e))
+pub run-passes : (p : Image) (s : State) (c : Card) (l : List ℕ) (k : ℕ) {t : Tested} → t ≡ runTest (verdict p) p s c (length l) k → t ≡ test.Accepted → Passing p s c l k
+run-passes p s c l k e h =
+    test-either p s c l k (λ (u : Tested). u ≡ test.Accepted → Passing p s c l k) (verdict p) refl
+    (λ a why f. absurd (not-accepted a f)) (λ v g m f. record { admitted = v; good = g; room = m }) (sym e ∙ h)
 
-    pub run-goes : ltb (length l) k ≡ false → hasRun c (run p s n l k) ≡ ranBy Admitted p s c n l k
-    unfolding ranBy
-    run-goes t = sym (if-true _ _ _ g ∙ if-false _ _ _ t)
+both-accept : (t u : Tested) → andThen t u ≡ test.Accepted → (t ≡ test.Accepted) × (u ≡ test.Accepted)
+unfolding andThen
+both-accept (test.Refused a) u h = absurd (not-accepted a h)
+both-accept test.Accepted u h = (refl, h)
+
+-- and what the event leaves is kept
+pub turn-passes : (p : Image) (s : State) (c : Card) (b l : List ℕ) (k : ℕ) {t : Tested} → t ≡ turnTest (verdict p) p s c b (length l) k → t ≡ test.Accepted
+    → Sized s → {y : State} → y ≡ entered p b (entryCount b) s → IsAdmitted p × IsKept p y × (k ≤ length l)
+unfolding turnTest
+turn-passes p s c b l k e h z f =
+    let w = both-accept _ _ (sym e ∙ h) in
+    let r = run-passes p s c l k refl (w .0) in
+    (r .admitted, subst (IsKept p) (sym f) (event-kept p s c b (r .admitted) (kept-of p s c (r .good)) z (w .1)), r .room)
+
+-- ---- a run and a turn by what their tests answered
+module _ (p : Image) (s : State) (c : Card) (n : ℕ) (l : List ℕ) (k : ℕ) {t : Tested} (e : t ≡ runTest (verdict p) p s c (length l) k) where
+  pub run-goes : t ≡ test.Accepted → {x : Ran} {m : List ℕ} → x ≡ hasRun c (run p s n l k) .ran → m ≡ hasRun c (run p s n l k) .list
+      → (x ≡ runReply p s c n l k .ran) × (m ≡ runReply p s c n l k .list)
+  unfolding runReply ranBy
+  run-goes h q w =
+      let f = ap (λ (u : Tested). ranBy u s c l k (hasRun c (run p s n l k))) (sym h ∙ e) in (q ∙ ap (λ (r : RunReply). r .ran) f, w ∙ ap (λ (r : RunReply). r .list) f)
+
+  pub run-refused : (a : RunAnswer) → t ≡ test.Refused a → {x : Ran} → x ≡ unrun a k s c → (x ≡ runReply p s c n l k .ran) × (l ≡ runReply p s c n l k .list)
+  unfolding runReply ranBy notRun
+  run-refused a h q =
+      let f = ap (λ (u : Tested). ranBy u s c l k (hasRun c (run p s n l k))) (sym h ∙ e) in (q ∙ ap (λ (r : RunReply). r .ran) f, ap (λ (r : RunReply). r .list) f)
+
+module _ (p : Image) (s : State) (c : Card) (b : List ℕ) (n : ℕ) (l : List ℕ) (k : ℕ) {t : Tested} (e : t ≡ turnTest (verdict p) p s c b (length l) k) where
+  pub turn-goes : t ≡ test.Accepted → {y : State} {d : Card} → y ≡ entered p b (entryCount b) s → d ≡ cardAfter c
+      → {x : Ran} {m : List ℕ} → x ≡ hasRun d (run p y n l k) .ran → m ≡ hasRun d (run p y n l k) .list
+      → (x ≡ turnReply p s c b n l k .ran) × (m ≡ turnReply p s c b n l k .list)
+  unfolding turnReply ranBy hasTurned
+  turn-goes h g i q w =
+      let f = (λ j. hasRun (i j) (run p (g j) n l k)) ∙ ap (λ (u : Tested). ranBy u s c l k (hasTurned p s c b n l k)) (sym h ∙ e) in
+      (q ∙ ap (λ (r : RunReply). r .ran) f, w ∙ ap (λ (r : RunReply). r .list) f)
+
+  pub turn-refused : (a : RunAnswer) → t ≡ test.Refused a → {x : Ran} → x ≡ unrun a k s c → (x ≡ turnReply p s c b n l k .ran) × (l ≡ turnReply p s c b n l k .list)
+  unfolding turnReply ranBy notRun
+  turn-refused a h q =
+      let f = ap (λ (u : Tested). ranBy u s c l k (hasTurned p s c b n l k)) (sym h ∙ e) in (q ∙ ap (λ (r : RunReply). r .ran) f, ap (λ (r : RunReply). r .list) f)

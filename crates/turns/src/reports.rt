@@ -1,76 +1,33 @@
-// The taking of an event: the image, then 30, then 20 to 25; "Apart from 32 a refusal changes nothing".
-use super::kept::good_kept;
+// A turn, one call per report: the event enters and the run begins; "a refusal of either's input leaves everything, the event included".
+use super::runs::refused;
+use super::runs::run_steps;
+use super::tested::turn_test;
 use plexil::Card;
+use plexil::Ran;
 use plexil::State;
-use plexil::TakeAnswer;
-use plexil::Taken;
-use plexil::Verdict;
+use plexil::Tested;
 ghost use mathlib.Core.Path.{_≡_};
-ghost use lib.Dec.{eqb};
-ghost use Rattle.plexil.specs.declared.Verdict.the-variants.{Admitted};
-ghost use Rattle.plexil.specs.Replies.{takeNumber, takenBy, takeAnswer, takeReply};
-ghost use Rattle.plexil.specs.Promises.{IsAdmitted};
+ghost use Rattle.plexil.specs.Replies.{turnReply};
 
-// Only Accepted has the number 0.
-fn is_accepted(a: TakeAnswer) -> bool
-    ensures { λ r. ⌜ r ≡ eqb (takeNumber a .number) 0 ⌝ }
+pub fn turn(
+    image: &[u8],
+    state: State,
+    card: Card,
+    event: &[u8],
+    budget: u16,
+    list: &mut [u32],
+    start: usize,
+) -> Ran
+    ensures { λ r. ⌜ (r ≡ turnReply (now (image .entry)) state card (now (event .entry)) budget (now (list .entry)) start .ran)
+        × (now (list .exit) ≡ turnReply (now (image .entry)) state card (now (event .entry)) budget (now (list .entry)) start .list) ⌝ }
 {
-    match a {
-        TakeAnswer::Refused(_, _) => false,
-        TakeAnswer::State => false,
-        TakeAnswer::Busy => false,
-        TakeAnswer::Shape => false,
-        TakeAnswer::Turn => false,
-        TakeAnswer::Entry(_) => false,
-        TakeAnswer::Twice(_) => false,
-        TakeAnswer::NotAwaited(_) => false,
-        TakeAnswer::Accepted => true,
-    }
-}
-
-// "An accepted event changes lookups and marks, moves the serial on and sets Running"
-fn taken(image: &[u8], state: State, card: Card, event: &[u8], a: TakeAnswer) -> Taken
-    ensures { λ r. ⌜ r ≡ takenBy a (now (image .entry)) state card (now (event .entry)) ⌝ }
-{
-    if is_accepted(a) {
-        return Taken {
-            answer: a,
-            state: events::entered(image, state, event),
-            card: events::card_after(card),
-        };
-    }
-    Taken {
-        answer: a,
-        state,
-        card,
-    }
-}
-
-// What an admitted plan's kept state makes of an event.
-fn answer(image: &[u8], state: State, card: Card, event: &[u8]) -> TakeAnswer
-    requires { ⌜ IsAdmitted (now image) ⌝ }
-    ensures { λ r. ⌜ r ≡ takeAnswer Admitted (now (image .entry)) state card (now (event .entry)) ⌝ }
-{
-    if good_kept(image, state, card) {
-        return events::event_answer(image, state, card, event);
-    }
-    TakeAnswer::State
-}
-
-pub fn take(image: &[u8], state: State, card: Card, event: &[u8]) -> Taken
-    ensures { λ r. ⌜ r ≡ takeReply (now (image .entry)) state card (now (event .entry)) ⌝ }
-{
-    let checked = admit::check(image);
-    let v = checked.verdict;
-    match v {
-        Verdict::Admitted => {
-            let a = answer(image, state, card, event);
-            taken(image, state, card, event, a)
+    let t = turn_test(image, state, card, event, list.len(), start);
+    match t {
+        Tested::Accepted => {
+            let told = events::entered(image, state, event);
+            let after = events::card_after(card);
+            run_steps(image, told, after, budget, list, start)
         }
-        Verdict::Refused(rule, i) => Taken {
-            answer: TakeAnswer::Refused(rule, i),
-            state,
-            card,
-        },
+        Tested::Refused(a) => refused(a, start, state, card),
     }
 }

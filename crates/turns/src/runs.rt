@@ -1,17 +1,16 @@
 // A run: "steps until Quiet, or answers Spent if its budget .. is used and a rule still applies, or else NoRoom".
-use super::kept::good_kept;
+use super::tested::run_test;
 use micro::StepEnd;
 use plexil::Card;
 use plexil::Ran;
 use plexil::RunAnswer;
 use plexil::State;
-use plexil::Verdict;
+use plexil::Tested;
 ghost use mathlib.Core.Path.{_≡_};
 ghost use Prim.Native.Nat.{_≤_};
 ghost use lib.ListN.{length};
-ghost use Rattle.plexil.specs.declared.Verdict.the-variants.{Admitted};
 ghost use Rattle.plexil.specs.Quiescence.{run as runOf};
-ghost use Rattle.plexil.specs.Replies.{hasRun, ranBy, runReply};
+ghost use Rattle.plexil.specs.Replies.{hasRun, runReply};
 ghost use Rattle.plexil.specs.Promises.{IsAdmitted, IsKept};
 ghost use Rattle.turns.specs.Ended.{ranTo, unrun};
 
@@ -32,7 +31,7 @@ fn ended(answer: RunAnswer, phase: u32, steps: u16, next: usize, state: State, c
 }
 
 // "refusals but 32 answer 0 and the given start place"
-fn refused(answer: RunAnswer, start: usize, state: State, card: Card) -> Ran
+pub(crate) fn refused(answer: RunAnswer, start: usize, state: State, card: Card) -> Ran
     ensures { λ r. ⌜ r ≡ unrun answer start state card ⌝ }
 {
     Ran {
@@ -44,7 +43,7 @@ fn refused(answer: RunAnswer, start: usize, state: State, card: Card) -> Ran
     }
 }
 
-fn run_steps(
+pub(crate) fn run_steps(
     image: &[u8],
     state: State,
     card: Card,
@@ -84,28 +83,6 @@ fn run_steps(
     ended(RunAnswer::Spent, 0, steps, next, t, card)
 }
 
-// An admitted plan: 30, then 31, then the steps.
-fn run_admitted(
-    image: &[u8],
-    state: State,
-    card: Card,
-    budget: u16,
-    list: &mut [u32],
-    start: usize,
-) -> Ran
-    requires { ⌜ IsAdmitted (now image) ⌝ }
-    ensures { λ r. ⌜ (r ≡ ranBy Admitted (now (image .entry)) state card budget (now (list .entry)) start .ran)
-        × (now (list .exit) ≡ ranBy Admitted (now (image .entry)) state card budget (now (list .entry)) start .list) ⌝ }
-{
-    if good_kept(image, state, card) {
-        if list.len() < start {
-            return refused(RunAnswer::Place, start, state, card);
-        }
-        return run_steps(image, state, card, budget, list, start);
-    }
-    refused(RunAnswer::State, start, state, card)
-}
-
 pub fn run(
     image: &[u8],
     state: State,
@@ -117,10 +94,9 @@ pub fn run(
     ensures { λ r. ⌜ (r ≡ runReply (now (image .entry)) state card budget (now (list .entry)) start .ran)
         × (now (list .exit) ≡ runReply (now (image .entry)) state card budget (now (list .entry)) start .list) ⌝ }
 {
-    let checked = admit::check(image);
-    let v = checked.verdict;
-    match v {
-        Verdict::Admitted => run_admitted(image, state, card, budget, list, start),
-        Verdict::Refused(rule, i) => refused(RunAnswer::Refused(rule, i), start, state, card),
+    let t = run_test(image, state, card, list.len(), start);
+    match t {
+        Tested::Accepted => run_steps(image, state, card, budget, list, start),
+        Tested::Refused(a) => refused(a, start, state, card),
     }
 }

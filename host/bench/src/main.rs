@@ -33,7 +33,7 @@ fn table() -> Result<(), Box<dyn Error>> {
         let tower = Tower::of(nodes)?;
         row(
             nodes,
-            "report (taken and run to quiet)",
+            "report (one turn to quiet)",
             || report::<Library>(&tower),
             || report::<Plain>(&tower),
         );

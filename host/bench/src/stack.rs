@@ -43,7 +43,7 @@ pub fn within(bytes: usize) -> Result<(), Box<dyn Error>> {
         let mut state = sum.fresh::<Library>();
         sum.check::<Library>();
         sum.run::<Library>(&mut state, RUNNING);
-        sum.take::<Library>(&mut state);
+        sum.turn::<Library>(&mut state);
     })?;
     calls.join().map_err(|_| "the calls panicked")?;
     Ok(())

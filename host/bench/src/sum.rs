@@ -53,10 +53,10 @@ impl Sum {
         1 + E::run(&self.image, state, &mut card, 1, &mut [], 0, &mut report)
     }
 
-    /// An event without entries; the count of events.
-    pub fn take<E: Executive>(&self, state: &mut State) -> u32 {
+    /// A turn of an event without entries; the count of turns.
+    pub fn turn<E: Executive>(&self, state: &mut State) -> u32 {
         let (mut card, mut report) = (Card { serial: 0, phase: QUIET }, Report::default());
-        1 + E::take(&self.image, state, &mut card, &[0; 8], &mut report)
+        1 + E::turn(&self.image, state, &mut card, &[0; 8], 1, &mut [], 0, &mut report)
     }
 }
 

@@ -73,19 +73,18 @@ impl Tower {
     /// A tower that never comes to rest.
     pub fn ticking<E: Executive>(&self) -> Turns<'_, E> {
         let mut turns = self.quiet();
-        turns.take(&EventBuilder::new().value(TICK, true));
+        turns.turn(&EventBuilder::new().value(TICK, true), 0);
         turns
     }
 }
 
 impl<E: Executive> Turns<'_, E> {
-    /// A command returns with a new reading and the plan runs to quiet; the count of reports.
+    /// A command returns with a new reading, and the plan's turn comes to quiet; the count of reports.
     pub fn report(&mut self) -> u32 {
         let command = self.tower.commands[self.reports % self.tower.commands.len()];
         self.reports += 1;
         let reading = self.reports as f64 / 8.0;
-        self.take(&EventBuilder::new().value(READING, reading).returned(command));
-        self.run(100);
+        self.turn(&EventBuilder::new().value(READING, reading).returned(command), 100);
         1
     }
 
@@ -98,10 +97,11 @@ impl<E: Executive> Turns<'_, E> {
         report.steps
     }
 
-    fn take(&mut self, event: &EventBuilder) {
+    fn turn(&mut self, event: &EventBuilder, budget: u16) {
         let (event, mut report) = (event.bytes(self.card.serial), Report::default());
-        E::take(&self.tower.image, &mut self.state, &mut self.card, &event, &mut report);
-        assert_eq!(report.number, 0, "a bench event is refused");
+        let (state, card) = (&mut self.state, &mut self.card);
+        E::turn(&self.tower.image, state, card, &event, budget, &mut self.list, 0, &mut report);
+        assert_eq!(report.number, 0, "a bench turn is refused");
     }
 }
 

@@ -16,7 +16,7 @@ struct Entry {
     value: u64,
 }
 
-/// An event that a quiet plan in this state takes.
+/// An event that a quiet plan in this state accepts.
 pub fn right(random: &mut Random, draft: &Draft, state: &State, card: &Card) -> Vec<u8> {
     bytes(card.serial, &entries(random, draft, state))
 }

@@ -42,14 +42,6 @@ impl<S: Executive, M: Executive> Pair<S, M> {
         })
     }
 
-    pub fn take(&mut self, image: &[u8], memory: &mut Memory, event: &[u8]) -> Result<Report, Difference> {
-        let taken = self.both("take", image, memory, |memory, report, subject| {
-            let call = if subject { S::take } else { M::take };
-            call(image, &mut memory.state, &mut memory.card, event, report)
-        });
-        taken.map_err(|difference| difference.given("event", event))
-    }
-
     pub fn run(
         &mut self,
         image: &[u8],
@@ -63,11 +55,35 @@ impl<S: Executive, M: Executive> Pair<S, M> {
             let Memory { state, card, list } = memory;
             call(image, state, card, budget, list, start, report)
         })?;
+        self.ran(image, memory, &report);
+        Ok(report)
+    }
+
+    pub fn turn(
+        &mut self,
+        image: &[u8],
+        memory: &mut Memory,
+        event: &[u8],
+        budget: u16,
+        start: usize,
+    ) -> Result<Report, Difference> {
+        let name = format!("turn with budget {budget} from place {start}");
+        let turned = self.both(&name, image, memory, |memory, report, subject| {
+            let call = if subject { S::turn } else { M::turn };
+            let Memory { state, card, list } = memory;
+            call(image, state, card, event, budget, list, start, report)
+        });
+        let report = turned.map_err(|difference| difference.given("event", event))?;
+        self.ran(image, memory, &report);
+        Ok(report)
+    }
+
+    /// Counts what a run or a turn left, if it was accepted.
+    fn ran(&mut self, image: &[u8], memory: &Memory, report: &Report) {
         if report.number == 0 {
             let nodes = u16::from_le_bytes([image[2], image[3]]);
-            self.tally.run(usize::from(nodes), &memory.state, &report);
+            self.tally.run(usize::from(nodes), &memory.state, report);
         }
-        Ok(report)
     }
 
     /// Makes a call twice on equal memory. "Apart from 32 a refusal changes nothing."

@@ -33,7 +33,7 @@ impl Tally {
         }
     }
 
-    /// Counts an accepted run and the codes in the state that it left.
+    /// Counts an accepted run or turn and the codes in the state that it left.
     pub fn run(&mut self, nodes: usize, state: &State, report: &Report) {
         self.quiet += u64::from(report.ending == 1);
         self.spent += u64::from(report.ending == 2);
@@ -61,7 +61,7 @@ fn count(codes: &mut [u64], code: u8) {
 impl fmt::Display for Tally {
     fn fmt(&self, f: &mut fmt::Formatter<'_>) -> fmt::Result {
         writeln!(f, "calls {}, micro steps {}", self.calls, self.steps)?;
-        writeln!(f, "accepted {}; runs to Quiet {}, Spent {}", self.accepted, self.quiet, self.spent)?;
+        writeln!(f, "accepted {}; runs and turns to Quiet {}, Spent {}", self.accepted, self.quiet, self.spent)?;
         write!(f, "refused ")?;
         for (number, met) in NUMBERS.iter().zip(self.refused) {
             write!(f, " {number}: {met}")?;

@@ -5,10 +5,13 @@ use crate::draft::Draft;
 use crate::memory::Memory;
 use crate::pair::Pair;
 use crate::{Random, Tally, damage, events, misses, plans, states};
-use samblokur_sys::{Card, Executive, State};
+use samblokur_sys::{Card, Executive, Report, State};
 
 /// What a list holds before a run, so that words written outside their part show.
 const UNWRITTEN: u32 = 0xDEAD_BEEF;
+
+/// A turn card's phase.
+const RUNNING: u32 = 0;
 
 /// Makes at least so many calls to both executives.
 ///
@@ -43,7 +46,11 @@ fn session<S: Executive, M: Executive>(
     let mut memory = anything(random);
     pair.fresh(&image, &mut memory)?;
     for _ in 0..1 + random.below(6) {
-        run(random, pair, &image, &mut memory)?;
+        // The run alone is for the fresh start, Spent and NoRoom, and does nothing after Quiet.
+        if memory.card.phase == RUNNING || random.chance(10) {
+            let ran = run(random, pair, &image, &mut memory)?;
+            promised(ran.number != 30, "a session meets 30")?;
+        }
         if random.chance(30) {
             damaged(random, pair, draft, &image, &memory)?;
         }
@@ -51,8 +58,11 @@ fn session<S: Executive, M: Executive>(
             true => events::right(random, draft, &memory.state, &memory.card),
             false => events::wrong(random, draft, &memory.state, &memory.card),
         };
-        let taken = pair.take(&image, &mut memory, &event)?;
-        promised(taken.number != 30, "a session meets 30")?;
+        let serial = memory.card.serial;
+        let turned = turn(random, pair, &image, &mut memory, &event)?;
+        promised(turned.number != 30, "a session meets 30")?;
+        let entered = matches!(turned.number, 0 | 32);
+        promised(entered == (memory.card.serial != serial), "the event is kept by NoRoom and Spent, and no refusal")?;
     }
     Ok(())
 }
@@ -70,18 +80,34 @@ fn kept<S: Executive, M: Executive>(
         run(random, pair, &image, &mut memory)?;
         damaged(random, pair, draft, &image, &memory)?;
         let event = events::wrong(random, draft, &memory.state, &memory.card);
-        pair.take(&image, &mut memory, &event)?;
+        turn(random, pair, &image, &mut memory, &event)?;
     }
     Ok(())
 }
 
-/// A run with any budget, into a list that may be too short, from a place that may be beyond it.
 fn run<S: Executive, M: Executive>(
     random: &mut Random,
     pair: &mut Pair<S, M>,
     image: &[u8],
     memory: &mut Memory,
-) -> Result<(), Difference> {
+) -> Result<Report, Difference> {
+    let (budget, start) = lent(random, memory);
+    pair.run(image, memory, budget, start)
+}
+
+fn turn<S: Executive, M: Executive>(
+    random: &mut Random,
+    pair: &mut Pair<S, M>,
+    image: &[u8],
+    memory: &mut Memory,
+    event: &[u8],
+) -> Result<Report, Difference> {
+    let (budget, start) = lent(random, memory);
+    pair.turn(image, memory, event, budget, start)
+}
+
+/// A list that may be too short, any budget, and a start place that may be beyond the list.
+fn lent(random: &mut Random, memory: &mut Memory) -> (u16, usize) {
     let room = if random.chance(70) { 40 } else { random.below(6) };
     memory.list = vec![UNWRITTEN; room];
     let start = if random.chance(90) { random.below(room.min(5)) } else { random.below(room + 3) };
@@ -91,7 +117,7 @@ fn run<S: Executive, M: Executive>(
         3 => random.half(8),
         _ => 60,
     };
-    pair.run(image, memory, budget, start).map(|_| ())
+    (budget, start)
 }
 
 /// Calls on copies in which state, card, event or image is damaged.
@@ -110,8 +136,8 @@ fn damaged<S: Executive, M: Executive>(
         2 => damage::bytes(random, &mut image),
         _ => damage::state(random, &mut memory.state),
     }
-    pair.take(&image, &mut memory.clone(), &event)?;
-    run(random, pair, &image, &mut memory)
+    turn(random, pair, &image, &mut memory.clone(), &event)?;
+    run(random, pair, &image, &mut memory).map(|_| ())
 }
 
 /// Images with a damaged header, a flipped bit or another length.
@@ -140,9 +166,9 @@ fn around<S: Executive, M: Executive>(
     pair.check(image)?;
     let mut memory = anything(random);
     run(random, pair, image, &mut memory.clone())?;
-    pair.take(image, &mut memory.clone(), &[0; 8])?;
+    turn(random, pair, image, &mut memory.clone(), &[0; 8])?;
     pair.fresh(image, &mut memory)?;
-    run(random, pair, image, &mut memory)
+    run(random, pair, image, &mut memory).map(|_| ())
 }
 
 /// Memory as a host may lend it to a fresh start.

@@ -10,6 +10,7 @@ const REPORT: u8 = 1;
 const BEYOND: u8 = 2;
 const REFUSAL: u8 = 3;
 const STATE: u8 = 4;
+const GIVES_BACK: u8 = 5;
 
 /// The plain executive with one thing wrong.
 struct Wrong<const WHAT: u8>;
@@ -49,10 +50,23 @@ impl<const WHAT: u8> Executive for Wrong<WHAT> {
         number
     }
 
-    fn take(image: &[u8], state: &mut State, card: &mut Card, event: &[u8], report: &mut Report) -> u32 {
-        let number = Plain::take(image, state, card, event, report);
+    fn turn(
+        image: &[u8],
+        state: &mut State,
+        card: &mut Card,
+        event: &[u8],
+        budget: u16,
+        list: &mut [u32],
+        start: usize,
+        report: &mut Report,
+    ) -> u32 {
+        let before = (state.clone(), *card);
+        let number = Plain::turn(image, state, card, event, budget, list, start, report);
         if WHAT == REFUSAL && number == 24 {
             card.serial = card.serial.wrapping_add(1);
+        }
+        if WHAT == GIVES_BACK && number == 32 {
+            (*state, *card) = before;
         }
         number
     }
@@ -69,4 +83,5 @@ fn wrong_executives_are_noticed() {
     assert!(is_noticed::<BEYOND>());
     assert!(is_noticed::<REFUSAL>());
     assert!(is_noticed::<STATE>());
+    assert!(is_noticed::<GIVES_BACK>());
 }

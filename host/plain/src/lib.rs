@@ -58,20 +58,32 @@ impl Executive for Plain {
         start: usize,
         report: &mut Report,
     ) -> u32 {
-        *report = match accepted(image, state, card).and_then(|image| run::place(image, list.len(), start)) {
+        let answer = accepted(image, state, card).and_then(|image| run::place(image, list.len(), start));
+        *report = match answer {
             Err(refused) => refusal(refused, start),
-            Ok(image) => {
-                let done = run::run(&image, state, budget, list, start);
-                card.phase = if done.ending == Ending::Quiet { form::QUIET } else { form::RUNNING };
-                done.report()
-            }
+            Ok(image) => ran(&image, state, card, budget, list, start),
         };
         report.number
     }
 
-    fn take(image: &[u8], state: &mut State, card: &mut Card, event: &[u8], report: &mut Report) -> u32 {
-        let answer = accepted(image, state, card).and_then(|image| event::take(&image, state, card, event));
-        tell(report, answer)
+    fn turn(
+        image: &[u8],
+        state: &mut State,
+        card: &mut Card,
+        event: &[u8],
+        budget: u16,
+        list: &mut [u32],
+        start: usize,
+        report: &mut Report,
+    ) -> u32 {
+        let answer = accepted(image, state, card)
+            .and_then(|image| run::place(image, list.len(), start))
+            .and_then(|image| event::take(&image, state, card, event).map(|()| image));
+        *report = match answer {
+            Err(refused) => refusal(refused, start),
+            Ok(image) => ran(&image, state, card, budget, list, start),
+        };
+        report.number
     }
 }
 
@@ -82,6 +94,20 @@ fn accepted<'a>(image: &'a [u8], state: &State, card: &Card) -> Result<Image<'a>
         true => Ok(image),
         false => Err(Refused::whole(30)),
     }
+}
+
+/// The run itself, with its report. "The phase is Quiet exactly after the answer Quiet."
+fn ran(
+    image: &Image,
+    state: &mut State,
+    card: &mut Card,
+    budget: u16,
+    list: &mut [u32],
+    start: usize,
+) -> Report {
+    let done = run::run(image, state, budget, list, start);
+    card.phase = if done.ending == Ending::Quiet { form::QUIET } else { form::RUNNING };
+    done.report()
 }
 
 /// The report of a call that does no steps.

@@ -39,7 +39,7 @@ impl EventBuilder {
         self.entry(2, node.0, 0)
     }
 
-    /// The event's bytes under a serial. More than 128 entries are refused when they are taken (21 Shape).
+    /// The event's bytes under a serial. More than 128 entries are refused (21 Shape).
     pub fn bytes(&self, serial: u32) -> Vec<u8> {
         let count = u16::try_from(self.entries.len()).unwrap_or(u16::MAX);
         let mut bytes = serial.to_le_bytes().to_vec();

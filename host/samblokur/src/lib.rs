@@ -1,7 +1,7 @@
 //! A plan executive for PLEXIL whose core is proved.
 //!
 //! A host opens a plan image, starts a session, runs it to quiet, carries out the command words, and hands
-//! what came of them back as events:
+//! what came of them back as events, one call per report:
 //!
 //! ```
 //! use samblokur::{Ending, EventBuilder, Outcome, Plan, PlanBuilder, Session, Word};
@@ -21,8 +21,7 @@
 //! assert_eq!(Word::of(list[0]), Word::Issue(scan));
 //!
 //! let event = EventBuilder::new().returned(scan).bytes(session.next_serial());
-//! session.take(&event)?;
-//! session.run(100, &mut list, 0)?;
+//! session.turn(&event, 100, &mut list, 0)?;
 //! assert_eq!(session.outcome(scan), Some(Outcome::Success));
 //! # Ok(())
 //! # }

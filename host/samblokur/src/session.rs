@@ -11,7 +11,7 @@ pub struct Session<'a> {
     card: Card,
 }
 
-/// How a run ended.
+/// How a run or a turn ended.
 #[derive(Clone, Copy, Debug, PartialEq, Eq)]
 pub enum Ending {
     /// No rule applies any more.
@@ -20,7 +20,7 @@ pub enum Ending {
     Spent,
 }
 
-/// What a run did.
+/// What a run or a turn did.
 #[derive(Clone, Copy, Debug, PartialEq, Eq)]
 pub struct Run {
     /// How it ended.
@@ -29,6 +29,15 @@ pub struct Run {
     pub steps: u32,
     /// The next free place in the list.
     pub next: usize,
+}
+
+impl Run {
+    /// What a report tells of a run or a turn.
+    fn of(report: &Report) -> Result<Run, Refusal> {
+        Refusal::of(report)?;
+        let ending = if report.ending == 2 { Ending::Spent } else { Ending::Quiet };
+        Ok(Run { ending, steps: report.steps, next: report.next })
+    }
 }
 
 impl<'a> Session<'a> {
@@ -49,27 +58,35 @@ impl<'a> Session<'a> {
         Session { plan, state, card }
     }
 
-    /// Runs to quiet under a step budget; command words go into the list from `start` on.
+    /// Runs to quiet under a step budget, after a fresh start, `Spent` or `NoRoom`; command words go into the
+    /// list from `start` on.
     ///
     /// # Errors
-    /// 30, 31, or 32 `NoRoom`, which keeps the steps done: take the words out, then run again.
+    /// 30, 31, or 32 `NoRoom`, which keeps the steps done: carry the words out, then run again.
     pub fn run(&mut self, budget: u16, list: &mut [u32], start: usize) -> Result<Run, Refusal> {
         let mut report = Report::default();
         let (state, card) = (&mut self.state, &mut self.card);
         Library::run(self.plan.image(), state, card, budget, list, start, &mut report);
-        Refusal::of(&report)?;
-        let ending = if report.ending == 2 { Ending::Spent } else { Ending::Quiet };
-        Ok(Run { ending, steps: report.steps, next: report.next })
+        Run::of(&report)
     }
 
-    /// Takes an event. No step is done: run next.
+    /// One call per report: the event enters, and the plan runs to quiet under a step budget; command words go
+    /// into the list from `start` on. `Ending::Spent` keeps the event: run next.
     ///
     /// # Errors
-    /// 30, or one of 20 to 25.
-    pub fn take(&mut self, event: &[u8]) -> Result<(), Refusal> {
+    /// 30, 31, or one of 20 to 25, which leave the session as it was; or 32 `NoRoom`, which keeps the event and
+    /// the steps done: carry the words out, then run.
+    pub fn turn(
+        &mut self,
+        event: &[u8],
+        budget: u16,
+        list: &mut [u32],
+        start: usize,
+    ) -> Result<Run, Refusal> {
         let mut report = Report::default();
-        Library::take(self.plan.image(), &mut self.state, &mut self.card, event, &mut report);
-        Refusal::of(&report)
+        let (state, card) = (&mut self.state, &mut self.card);
+        Library::turn(self.plan.image(), state, card, event, budget, list, start, &mut report);
+        Run::of(&report)
     }
 
     /// The plan.

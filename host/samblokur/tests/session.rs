@@ -27,11 +27,12 @@ fn a_session_over_its_turns() -> Result<(), Refusal> {
         (run.ending, run.steps, run.next, Word::of(list[0])),
         (Ending::Quiet, 3, 1, Word::Issue(command))
     );
-    session.take(&EventBuilder::new().value(LookupId(0), false).bytes(session.next_serial()))?;
-    let run = session.run(100, &mut list, run.next)?;
+    let event = EventBuilder::new().value(LookupId(0), false).bytes(session.next_serial());
+    let run = session.turn(&event, 100, &mut list, run.next)?;
     assert_eq!((run.steps, Word::of(list[1])), (2, Word::Abort(command)));
     assert_eq!((session.status(command), session.returned(command)), (Some(Status::Failing), false));
-    session.take(&EventBuilder::new().returned(command).bytes(1))?;
+    let event = EventBuilder::new().returned(command).bytes(1);
+    assert_eq!(session.turn(&event, 0, &mut list, 0)?.ending, Ending::Spent);
     assert!(session.returned(command));
     assert_eq!(session.run(100, &mut list, 0)?.steps, 4);
     assert_eq!(session.outcome(root), Some(Outcome::Failure));
@@ -48,13 +49,29 @@ fn refusals_are_typed() -> Result<(), Refusal> {
     let image = guarded()?;
     assert_eq!(Plan::open(&image[..19]).err(), Some(Refusal::Short));
     let mut session = Session::fresh(Plan::open(&image)?)?;
-    assert_eq!(session.take(&[]), Err(Refusal::Busy));
+    assert_eq!(session.turn(&[], 100, &mut [], 0), Err(Refusal::Busy));
+    assert_eq!(session.turn(&[], 100, &mut [], 1), Err(Refusal::Place));
     assert_eq!(session.run(100, &mut [], 1), Err(Refusal::Place));
     let no_room = session.run(100, &mut [], 0);
     assert_eq!(no_room, Err(Refusal::NoRoom { steps: 2, next: 0 }));
     assert_eq!(session.run(100, &mut [0], 0).map(|run| run.steps), Ok(1));
-    assert_eq!(session.take(&EventBuilder::new().returned(NodeId(0)).bytes(0)), Err(Refusal::Entry(0)));
-    assert_eq!(session.take(&EventBuilder::new().bytes(7)), Err(Refusal::Turn));
+    let root_returned = EventBuilder::new().returned(NodeId(0)).bytes(0);
+    assert_eq!(session.turn(&root_returned, 100, &mut [], 0), Err(Refusal::Entry(0)));
+    assert_eq!(session.turn(&EventBuilder::new().bytes(7), 100, &mut [], 0), Err(Refusal::Turn));
+    Ok(())
+}
+
+#[test]
+fn no_room_keeps_the_event_and_a_refusal_does_not() -> Result<(), Refusal> {
+    let image = guarded()?;
+    let mut session = Session::fresh(Plan::open(&image)?)?;
+    session.run(100, &mut [0], 0)?;
+    let event = EventBuilder::new().value(LookupId(0), false).bytes(0);
+    assert_eq!(session.turn(&event, 100, &mut [], 1), Err(Refusal::Place));
+    assert_eq!((session.next_serial(), session.lookup(LookupId(0))), (0, Some(Value::Unknown)));
+    assert_eq!(session.turn(&event, 100, &mut [], 0), Err(Refusal::NoRoom { steps: 1, next: 0 }));
+    assert_eq!((session.next_serial(), session.lookup(LookupId(0))), (1, Some(Value::Bool(false))));
+    assert_eq!(session.run(100, &mut [0], 0).map(|run| run.steps), Ok(1));
     Ok(())
 }
 

@@ -80,11 +80,11 @@ pub struct Report {
     pub number: u32,
     /// The record or entry that the refusal names, else 0.
     pub record: u32,
-    /// 0 refused; a run: 1 Quiet, 2 Spent; the other calls: 1 done.
+    /// 0 refused; a run or a turn: 1 Quiet, 2 Spent; the other calls: 1 done.
     pub ending: u32,
-    /// A run's count of micro steps.
+    /// A run's or a turn's count of micro steps.
     pub steps: u32,
-    /// A run's next free place in the command list.
+    /// A run's or a turn's next free place in the command list.
     pub next: usize,
 }
 
@@ -136,8 +136,17 @@ pub trait Executive {
         report: &mut Report,
     ) -> u32;
 
-    /// Takes an event; no step is done.
-    fn take(image: &[u8], state: &mut State, card: &mut Card, event: &[u8], report: &mut Report) -> u32;
+    /// One call per report: the event enters, and the run begins.
+    fn turn(
+        image: &[u8],
+        state: &mut State,
+        card: &mut Card,
+        event: &[u8],
+        budget: u16,
+        list: &mut [u32],
+        start: usize,
+        report: &mut Report,
+    ) -> u32;
 }
 
 /// The proved library.
@@ -167,13 +176,17 @@ unsafe extern "C" {
         report: *mut Report,
     ) -> u32;
 
-    fn samblokur_take(
+    fn samblokur_turn(
         image: *const u8,
         image_len: usize,
         state: *mut State,
         card: *mut Card,
         event: *const u8,
         event_len: usize,
+        budget: u16,
+        list: *mut u32,
+        list_len: usize,
+        start: usize,
         report: *mut Report,
     ) -> u32;
 }
@@ -203,8 +216,19 @@ impl Executive for Library {
         unsafe { samblokur_run(image.as_ptr(), image.len(), state, card, budget, words, room, start, report) }
     }
 
-    fn take(image: &[u8], state: &mut State, card: &mut Card, event: &[u8], report: &mut Report) -> u32 {
+    fn turn(
+        image: &[u8],
+        state: &mut State,
+        card: &mut Card,
+        event: &[u8],
+        budget: u16,
+        list: &mut [u32],
+        start: usize,
+        report: &mut Report,
+    ) -> u32 {
         let (bytes, length) = (event.as_ptr(), event.len());
-        unsafe { samblokur_take(image.as_ptr(), image.len(), state, card, bytes, length, report) }
+        let (words, room) = (list.as_mut_ptr(), list.len());
+        let (plan, size) = (image.as_ptr(), image.len());
+        unsafe { samblokur_turn(plan, size, state, card, bytes, length, budget, words, room, start, report) }
     }
 }

@@ -47,8 +47,8 @@ variables or lookups, 9 and 11 a value of another kind, 10 too deep.
 pub const RUN: &str = "\
 samblokur run FILE [--events FILE] [--budget N] [--svg OUT]
 
-Starts the plan in FILE afresh and runs it to quiet, then takes the
-events one by one and runs to quiet after each. For each turn it tells the
+Starts the plan in FILE afresh and runs it to quiet; then each event is
+a turn, in which it enters and the plan runs to quiet. For each it tells the
 count of micro steps, the commands issued and aborted, the statuses that each
 node went through, and the variables that changed.
 

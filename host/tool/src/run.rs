@@ -43,20 +43,18 @@ fn turns(
     told: &mut String,
 ) -> Result<(), Trouble> {
     let mut session = Session::fresh(plan).map_err(Trouble::refused(&asked.plan))?;
-    let mut cause = "fresh start".to_string();
-    let mut events = events.iter();
-    loop {
-        let turn = turn(&mut session, cause, asked.budget)
-            .map_err(Trouble::refused(format!("the run of {}", asked.plan)))?;
-        telling::tell(&turn, &session, names, told);
-        picture.add(&turn, &session);
-        let Some(event) = events.next() else {
-            telling::end(&session, names, told);
-            return Ok(());
-        };
+    let first = turn(&mut session, None, "fresh start".to_string(), asked.budget)
+        .map_err(Trouble::refused(format!("the run of {}", asked.plan)))?;
+    telling::tell(&first, &session, names, told);
+    picture.add(&first, &session);
+    for event in events {
         let serial = session.next_serial();
-        let taken = session.take(&event.builder.bytes(serial));
-        taken.map_err(Trouble::refused(format!("event {serial} (line {}: {})", event.line, event.text)))?;
-        cause = format!("event {serial} ({})", event.text);
+        let (bytes, cause) = (event.builder.bytes(serial), format!("event {serial} ({})", event.text));
+        let next = turn(&mut session, Some(&bytes), cause, asked.budget)
+            .map_err(Trouble::refused(format!("event {serial} (line {}: {})", event.line, event.text)))?;
+        telling::tell(&next, &session, names, told);
+        picture.add(&next, &session);
     }
+    telling::end(&session, names, told);
+    Ok(())
 }

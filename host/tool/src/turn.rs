@@ -1,4 +1,4 @@
-//! One turn seen micro step by micro step: it is run with budget 1 again and again.
+//! One turn seen micro step by micro step: it begins with budget 1 and is run with budget 1 again and again.
 
 use samblokur::{Body, Ending, Failure, NodeId, Refusal, Session, State, Status, Word};
 
@@ -16,7 +16,7 @@ pub struct Write {
     pub lost: bool,
 }
 
-/// A run after the fresh start or after an event.
+/// The run after the fresh start, or a turn with its event.
 pub struct Turn {
     pub cause: String,
     pub before: State,
@@ -24,8 +24,13 @@ pub struct Turn {
     pub steps: Vec<Step>,
 }
 
-/// Runs until quiet, or until the budget is used.
-pub fn turn(session: &mut Session, cause: String, budget: u16) -> Result<Turn, Refusal> {
+/// Runs until quiet, or until the budget is used; an event enters with the first call.
+pub fn turn(
+    session: &mut Session,
+    mut event: Option<&[u8]>,
+    cause: String,
+    budget: u16,
+) -> Result<Turn, Refusal> {
     let before = session.state().clone();
     let mut steps = Vec::new();
     // One step issues at most one word a node.
@@ -33,7 +38,10 @@ pub fn turn(session: &mut Session, cause: String, budget: u16) -> Result<Turn, R
     loop {
         let allowed = u16::from(steps.len() < usize::from(budget));
         let old = session.state().clone();
-        let run = session.run(allowed, &mut list, 0)?;
+        let run = match event.take() {
+            Some(event) => session.turn(event, allowed, &mut list, 0)?,
+            None => session.run(allowed, &mut list, 0)?,
+        };
         if run.steps == 1 {
             steps.push(step(&old, session, &list[..run.next]));
         }

@@ -45,11 +45,9 @@ fn a_waiting_child_stays_under_a_finishing_parent() {
     let plan = truths().list(NONE).with(END, 3).command(0, 1).command(0, 2).with(START, 1);
     let mut table = Table::fresh(&plan);
     table.quiet_after(3);
-    assert_eq!(table.take(0, &[(0, 0, 1)]).number, 0);
-    table.quiet_after(1);
+    table.quiet_turn(0, &[(0, 0, 1)], 1);
     assert_eq!((table.places(0).0, table.places(2).0), (3, WAITING));
-    assert_eq!(table.take(1, &[(2, 1, 0)]).number, 0);
-    table.quiet_after(4);
+    table.quiet_turn(1, &[(2, 1, 0)], 4);
     assert_eq!((table.places(0), table.places(2).0), ((FINISHED, SUCCESS, 0), WAITING));
 }
 
@@ -73,11 +71,10 @@ fn a_returned_command_fails_without_an_abort() {
     let plan = truths().list(NONE).with(INV, 3).command(0, 1).with(END, 1);
     let mut table = Table::fresh(&plan);
     table.quiet_after(3);
-    assert_eq!(table.take(0, &[(2, 1, 0)]).number, 0);
-    table.quiet_after(0);
+    table.quiet_turn(0, &[(2, 1, 0)], 0);
     assert_eq!((table.places(1).0, table.state.mark[1]), (EXECUTING, 1));
-    assert_eq!(table.take(1, &[(0, 0, 0)]).number, 0);
-    assert_eq!((table.run(2).steps, table.places(1), table.next), (2, (FAILING, FAILURE, 4), 1));
+    let steps = table.turn(1, &[(0, 0, 0)], 2).steps;
+    assert_eq!((steps, table.places(1), table.next), (2, (FAILING, FAILURE, 4), 1));
     table.quiet_after(4);
     assert_eq!((table.places(1), table.state.mark[1]), ((FINISHED, FAILURE, 4), 0));
 }

@@ -56,9 +56,7 @@ fn k5_a_lone_command() {
     let mut table = Table::fresh(&Records::default().command(NONE, 7));
     table.quiet_after(1);
     assert_eq!((table.list[0], table.next), (0, 1));
-    assert_eq!(table.take(0, &[(2, 0, 0)]).number, 0);
-    assert_eq!((table.card.serial, table.card.phase), (1, 0));
-    table.quiet_after(2);
+    table.quiet_turn(0, &[(2, 0, 0)], 2);
     assert_eq!(table.places(0), (FINISHED, SUCCESS, 0));
     assert_eq!((table.next, table.list[1]), (1, 77));
 }
@@ -100,11 +98,9 @@ fn k9_an_invariant_on_a_lookup() {
     let mut table = Table::fresh(&plan.list(NONE).with(INV, 0).command(0, 1));
     table.quiet_after(3);
     assert_eq!((table.list[0], table.next), (2, 1));
-    assert_eq!(table.take(0, &[(0, 0, 0)]).number, 0);
-    table.quiet_after(2);
+    table.quiet_turn(0, &[(0, 0, 0)], 2);
     assert_eq!((table.list[1], table.next), (3, 2));
-    assert_eq!(table.take(1, &[(2, 1, 0)]).number, 0);
-    table.quiet_after(4);
+    table.quiet_turn(1, &[(2, 1, 0)], 4);
     assert_eq!(table.places(0), (FINISHED, FAILURE, 3));
     assert_eq!(table.places(1), (FINISHED, FAILURE, 4));
 }

@@ -1,6 +1,6 @@
 //! The unmarked small plans, and a plan or call for each refusal number.
 
-use crate::table::{BOOL, INT, NONE, POST, PRE, Records, Table, checked};
+use crate::table::{BOOL, INT, NONE, POST, PRE, Records, START, Table, checked};
 use plain::Plain;
 use samblokur_sys::{Executive, Report};
 
@@ -75,10 +75,10 @@ fn kinds_and_reach() {
 fn events() {
     let plan = Records::default().list(NONE).command(0, 4).command(0, 5).lookup(BOOL);
     let mut table = Table::fresh(&plan);
-    assert_eq!(table.take(0, &[]).number, 20);
+    assert_eq!(table.turn(0, &[], 100).number, 20);
     table.quiet_after(3);
     let mut told = |serial, entries: &[(u8, u16, u64)]| {
-        let report = table.take(serial, entries);
+        let report = table.turn(serial, entries, 0);
         (report.number, report.record)
     };
     assert_eq!(told(1, &[]), (22, 0));
@@ -86,9 +86,9 @@ fn events() {
     assert_eq!(told(0, &[(0, 0, 1), (1, 0, 0)]), (24, 1));
     assert_eq!(told(0, &[(0, 0, 2)]), (23, 0));
     assert_eq!(told(0, &[(2, 1, 0)]), (0, 0));
-    table.run(0);
+    assert_eq!((table.card.serial, table.card.phase, table.state.mark[1]), (1, 0, 1));
     table.run(100);
-    assert_eq!((table.take(1, &[(2, 2, 0), (2, 1, 0)]).number, table.card.serial), (25, 1));
+    assert_eq!((table.turn(1, &[(2, 2, 0), (2, 1, 0)], 100).number, table.card.serial), (25, 1));
 }
 
 #[test]
@@ -97,7 +97,8 @@ fn shape() {
     table.quiet_after(4);
     let (state, card, mut report) = (&mut table.state, &mut table.card, Report::default());
     for event in [&[0; 7][..], &[0, 0, 0, 0, 1, 0, 0, 0], &[0, 0, 0, 0, 0, 0, 1, 0]] {
-        assert_eq!(Plain::take(&table.image, state, card, event, &mut report), 21);
+        assert_eq!(Plain::turn(&table.image, state, card, event, 100, &mut [7], 1, &mut report), 21);
+        assert_eq!((report.steps, report.next), (0, 1));
     }
 }
 
@@ -106,8 +107,8 @@ fn serials_wrap() {
     let mut table = Table::fresh(&Records::default().list(NONE));
     table.quiet_after(4);
     table.card.serial = u32::MAX;
-    assert_eq!(table.take(u32::MAX, &[]).number, 0);
-    assert_eq!((table.card.serial, table.card.phase), (0, 0));
+    table.quiet_turn(u32::MAX, &[], 0);
+    assert_eq!(table.card.serial, 0);
 }
 
 #[test]
@@ -143,4 +144,21 @@ fn places_and_room() {
     table.next = 62;
     table.quiet_after(1);
     assert_eq!(table.list[61..], [77, 2, 4]);
+}
+
+#[test]
+fn places_and_room_of_a_turn() {
+    let plan = Records::default().lookup(BOOL).entry(2, BOOL, 0, 0, 0).list(NONE).command(0, 1).with(START, 0);
+    let mut table = Table::fresh(&plan);
+    table.next = 65;
+    assert_eq!((table.turn(0, &[], 100).number, table.card.serial), (31, 0));
+    table.next = 0;
+    table.quiet_after(2);
+    table.next = 64;
+    let report = table.turn(0, &[(0, 0, 1)], 100);
+    assert_eq!((report.number, report.ending, report.steps, report.next), (32, 0, 0, 64));
+    assert_eq!((table.card.serial, table.card.phase, table.state.lookbits[0]), (1, 0, 1));
+    table.next = 63;
+    table.quiet_after(1);
+    assert_eq!(table.list[62..], [77, 2]);
 }

@@ -128,7 +128,7 @@ impl Table {
         report
     }
 
-    pub fn take(&mut self, serial: u32, entries: &[(u8, u16, u64)]) -> Report {
+    pub fn turn(&mut self, serial: u32, entries: &[(u8, u16, u64)], budget: u16) -> Report {
         let mut event: Vec<u8> = serial.to_le_bytes().to_vec();
         event.extend((entries.len() as u32).to_le_bytes());
         for &(form, index, value) in entries {
@@ -137,14 +137,28 @@ impl Table {
             event.extend(value.to_le_bytes());
         }
         let mut report = Report::default();
-        Plain::take(&self.image, &mut self.state, &mut self.card, &event, &mut report);
+        let (state, card, list) = (&mut self.state, &mut self.card, &mut self.list);
+        Plain::turn(&self.image, state, card, &event, budget, list, self.next, &mut report);
+        self.next = report.next;
         report
     }
 
-    /// The ending Quiet after so many steps.
+    /// A run with the ending Quiet after so many steps.
     pub fn quiet_after(&mut self, steps: u32) {
         let next = self.next;
         let report = self.run(100);
+        self.is_quiet(&report, steps, next);
+    }
+
+    /// A turn with the ending Quiet after so many steps.
+    pub fn quiet_turn(&mut self, serial: u32, entries: &[(u8, u16, u64)], steps: u32) {
+        let next = self.next;
+        let report = self.turn(serial, entries, 100);
+        self.is_quiet(&report, steps, next);
+        assert_eq!(self.card.serial, serial.wrapping_add(1));
+    }
+
+    fn is_quiet(&self, report: &Report, steps: u32, next: usize) {
         assert_eq!((report.number, report.ending, report.steps), (0, 1, steps));
         assert_eq!(self.card.phase, 1);
         assert!(report.next >= next);

@@ -1,34 +1,33 @@
--- By the verdict.
+-- By what the tests answer.
 use borrow.Author.Needs.{needs}
-use mathlib.Core.Path.{ap, _∙_}
-use Rattle.plexil.specs.Replies.{RunReply}
-use Rattle.turns.proofs.ReplyLaws.{verdict-is, run-admitted-is, run-refused}
+use Rattle.plexil.proofs.Sessions.{kept-of}
+use Rattle.turns.proofs.ReplyLaws.{run-passes, run-goes, run-refused}
 use Rattle.turns.proofs.runs.run.Statement.{statement}
 use Rattle.turns.proofs.runs.run.Tie as tie
 
-check-requires : tie.Need-check-requires
-check-requires c κs = tt
+run-test-requires : tie.Need-run-test-requires
+run-test-requires c κs = search needs
 
 enum-told : tie.Need-enum-told
 enum-told c = search needs
 
-run-admitted-requires : tie.Need-run-admitted-requires
-run-admitted-requires c κs = verdict-is _ (c .before .before .before .check .ensures) (c .before .enum-told .given .1)
+run-steps-requires : tie.Need-run-steps-requires
+run-steps-requires c κs = let w = run-passes _ _ _ (c .before .before .before .before .before .before .args .list .now) _ (c .before .before .before .run-test .ensures) (c .before .enum-told .given .1) in (w .admitted, kept-of _ _ _ (w .good), w .room)
 
-enum-known-v : tie.Need-enum-known-v
-enum-known-v c = search needs
+enum-known-t : tie.Need-enum-known-t
+enum-known-t c = search needs
 
 refused-requires : tie.Need-refused-requires
-refused-requires c κs = tt
+refused-requires c κs = search needs
 
 same-length : tie.Need-same-length
 same-length c = search needs
 
 returns : tie.Need-returns
-returns c = (c .before .before .run-admitted .ensures .0 ∙ ap (λ (r : RunReply). r .ran) (run-admitted-is _ _ _ _ _ _ (verdict-is _ (c .before .before .before .before .before .before .check .ensures) (c .before .before .before .before .enum-told .given .1))), c .before .before .run-admitted .ensures .1 ∙ ap (λ (r : RunReply). r .list) (run-admitted-is _ _ _ _ _ _ (verdict-is _ (c .before .before .before .before .before .before .check .ensures) (c .before .before .before .before .enum-told .given .1))))
+returns c = run-goes _ _ _ _ _ _ (c .before .before .before .before .before .before .run-test .ensures) (c .before .before .before .before .enum-told .given .1) (c .before .before .run-steps .ensures .0) (c .before .before .run-steps .ensures .1)
 
 returns-2 : tie.Need-returns-2
-returns-2 c = run-refused _ _ _ _ _ _ _ _ (verdict-is _ (c .before .before .before .before .check .ensures) (c .before .before .v .given .1)) (c .refused .ensures)
+returns-2 c = run-refused _ _ _ _ _ _ (c .before .before .before .before .run-test .ensures) _ (c .before .before .t .given .1) (c .refused .ensures)
 
 pub run-spec : {M : Type 1} → statement M
-run-spec = tie.close (tie.spec check-requires enum-told run-admitted-requires enum-known-v refused-requires same-length returns returns-2)
+run-spec = tie.close (tie.spec run-test-requires enum-told run-steps-requires enum-known-t refused-requires same-length returns returns-2)
