@@ -1,8 +1,8 @@
 /*
  * A C host: it starts a plan image from a file and runs it to quiet; a command
- * that it is told to carry out or to abort is over at once, so it returns each
- * of them and runs again until none is left. A plan that never comes to rest
- * keeps it busy for ever.
+ * that it is told to carry out or to abort is over at once, so it reports each
+ * of them as returned, a turn a report, until none is left. A plan that never
+ * comes to rest keeps it busy for ever.
  *
  *   cc -std=c11 -Wall -Wextra -pedantic -I../include example.c \
  *      ../../target/staticlib/libsamblokur.a -o example
@@ -21,6 +21,7 @@ static samblokur_state state;
 static samblokur_card card;
 static samblokur_report report;
 static uint32_t list[SAMBLOKUR_ROOM];
+static uint8_t event[SAMBLOKUR_EVENT_HEADER + SAMBLOKUR_EVENT_ENTRY * SAMBLOKUR_EVENT_MOST];
 
 /* The nodes whose commands are issued and not returned yet. */
 static int awaited[SAMBLOKUR_ROOM];
@@ -51,20 +52,20 @@ static void carry_out(void) {
   }
 }
 
-/* Runs to quiet, however many budgets and lists it takes; the refusal number. */
-static uint32_t run_to_quiet(void) {
-  for (;;) {
-    uint32_t number = samblokur_run(image, image_len, &state, &card, BUDGET, list, SAMBLOKUR_ROOM, 0, &report);
-    if (number != SAMBLOKUR_ACCEPTED && number != SAMBLOKUR_NO_ROOM) return number;
+/* After a run or a turn: carries out its words and runs on until quiet, however
+ * many budgets and lists it takes; the refusal number. */
+static uint32_t to_quiet(uint32_t number) {
+  while (number == SAMBLOKUR_ACCEPTED || number == SAMBLOKUR_NO_ROOM) {
     printf("%u steps\n", (unsigned)report.steps);
     carry_out();
-    if (report.ending == SAMBLOKUR_DONE) return SAMBLOKUR_ACCEPTED;
+    if (report.ending == SAMBLOKUR_DONE) break;
+    number = samblokur_run(image, image_len, &state, &card, BUDGET, list, SAMBLOKUR_ROOM, 0, &report);
   }
+  return number;
 }
 
-/* Takes an event that returns as many awaited commands as it can hold; their count. */
-static uint32_t return_commands(void) {
-  uint8_t event[SAMBLOKUR_EVENT_HEADER + SAMBLOKUR_EVENT_ENTRY * SAMBLOKUR_EVENT_MOST];
+/* An event that returns as many awaited commands as it can hold; its length, 0 if none is awaited. */
+static size_t gather(void) {
   uint8_t *at = event + SAMBLOKUR_EVENT_HEADER;
   uint32_t count = 0;
   memset(event, 0, sizeof event);
@@ -79,8 +80,7 @@ static uint32_t return_commands(void) {
   put16(event, card.serial & 65535u);
   put16(event + 2, card.serial >> 16);
   put16(event + 4, count);
-  if (count > 0) samblokur_take(image, image_len, &state, &card, event, (size_t)(at - event), &report);
-  return count;
+  return count > 0 ? (size_t)(at - event) : 0;
 }
 
 int main(int argc, char **argv) {
@@ -89,9 +89,14 @@ int main(int argc, char **argv) {
     return 64;
   }
   uint32_t number = samblokur_fresh(image, image_len, &state, &card, &report);
-  if (number == SAMBLOKUR_ACCEPTED) number = run_to_quiet();
-  while (number == SAMBLOKUR_ACCEPTED && return_commands() > 0) {
-    number = report.number == SAMBLOKUR_ACCEPTED ? run_to_quiet() : report.number;
+  if (number == SAMBLOKUR_ACCEPTED) {
+    number = samblokur_run(image, image_len, &state, &card, BUDGET, list, SAMBLOKUR_ROOM, 0, &report);
+    number = to_quiet(number);
+  }
+  size_t length;
+  while (number == SAMBLOKUR_ACCEPTED && (length = gather()) > 0) {
+    number = samblokur_turn(image, image_len, &state, &card, event, length, BUDGET, list, SAMBLOKUR_ROOM, 0, &report);
+    number = to_quiet(number);
   }
   if (number != SAMBLOKUR_ACCEPTED) {
     fprintf(stderr, "refused: number %u, record %u\n", (unsigned)number, (unsigned)report.record);

@@ -11,23 +11,21 @@
  * the contents: each call checks all that it is given and refuses by number.
  *
  * Each call returns the refusal number, 0 where nothing is refused, and fills
- * every field of its report. A refusal changes nothing else that was lent, but
- * for SAMBLOKUR_NO_ROOM, which keeps the steps already done.
+ * every field of its report. A refusal changes nothing else that was lent, and
+ * a refused turn has not taken its event; but SAMBLOKUR_NO_ROOM keeps the event
+ * and the steps already done.
  *
- * A host's course:
+ * A host's course, with every run and turn from place 0 of the list:
  *
- *   samblokur_fresh, once
- *   repeat:
- *     samblokur_run from place 0 of an empty list
- *       SPENT:   call it again; a rule still applies (a budget of 0 does no
- *                step, so it would stay SPENT for ever)
- *       NO_ROOM: carry out the words below report.next, empty the list, call it
- *                again. With SAMBLOKUR_ROOM places NO_ROOM on an empty list
- *                never comes
- *       DONE:    the plan is Quiet; carry out the words below report.next
- *     wait for what the cabinet reports, then samblokur_take
+ *   samblokur_fresh and samblokur_run, once
+ *   after every accepted run or turn, NO_ROOM included, first carry out the
+ *   words below report.next; then
+ *     DONE:             wait for what the cabinet reports, then samblokur_turn
+ *     SPENT or NO_ROOM: samblokur_run
  *
- * An aborted command is still awaited: return it too when it has stopped.
+ * A budget of 0 does no step, so it would stay SPENT for ever. In a list of
+ * SAMBLOKUR_ROOM places or more NO_ROOM comes only after a step. An aborted
+ * command is still awaited: return it too when it has stopped.
  */
 #ifndef SAMBLOKUR_H
 #define SAMBLOKUR_H
@@ -41,8 +39,9 @@ extern "C" {
 
 /* Refusal numbers. The lowest broken of 1 to 12 is answered, with the lowest
  * record that breaks it. Every call checks its image first (1 to 12); then
- * samblokur_run and samblokur_take check the state and card (30), and then 31,
- * or 20 to 25 in order. The limits are those of samblokur_counts. */
+ * samblokur_run and samblokur_turn check the state and card (30), and then 31;
+ * then samblokur_turn checks the event, 20 to 25 in order. The limits are those
+ * of samblokur_counts. */
 enum samblokur_refusal {
   SAMBLOKUR_ACCEPTED = 0,
   SAMBLOKUR_SHORT = 1,       /* image under 20 bytes */
@@ -115,9 +114,10 @@ enum samblokur_phase { SAMBLOKUR_RUNNING = 0, SAMBLOKUR_QUIET = 1 };
 /* report.ending */
 enum samblokur_ending {
   SAMBLOKUR_REFUSED = 0, /* the call was refused */
-  SAMBLOKUR_DONE = 1,    /* a check, fresh start or event: accepted; a run: the
+  SAMBLOKUR_DONE = 1,    /* a check or fresh start: accepted; a run or turn: the
                             plan is Quiet, no rule applies any more */
-  SAMBLOKUR_SPENT = 2    /* a run: the budget is used and a rule still applies */
+  SAMBLOKUR_SPENT = 2    /* a run or turn: the budget is used and a rule still
+                            applies */
 };
 
 /* What a plan keeps between calls. Places past the plan's counts hold 0. */
@@ -151,9 +151,9 @@ typedef struct samblokur_report {
   uint32_t number; /* the number that the call returns */
   uint32_t record; /* the record or entry that a refusal names, else 0 */
   uint32_t ending; /* samblokur_ending */
-  uint32_t steps;  /* a run's count of micro steps, else 0 */
-  size_t next;     /* a run's next free place in the list; the given start when
-                      it is refused (but for NO_ROOM); else 0 */
+  uint32_t steps;  /* a run's or turn's count of micro steps, else 0 */
+  size_t next;     /* a run's or turn's next free place in the list; the given
+                      start when it is refused (but for NO_ROOM); else 0 */
 } samblokur_report;
 
 /* A command word is twice the node number, plus 1 for an abort. Which command
@@ -202,20 +202,22 @@ uint32_t samblokur_fresh(const uint8_t *image, size_t image_len,
                          samblokur_state *state, samblokur_card *card,
                          samblokur_report *report);
 
-/* Runs to quiet under a step budget and writes the command words into list
- * from place start on, those of one micro step in node order. A run of a plan
- * that is Quiet does no step and is DONE. */
+/* Runs to quiet under a step budget, after a fresh start, SPENT or NO_ROOM, and
+ * writes the command words into list from place start on, those of one micro
+ * step in node order. A run of a plan that is Quiet does no step and is DONE. */
 uint32_t samblokur_run(const uint8_t *image, size_t image_len,
                        samblokur_state *state, samblokur_card *card,
                        uint16_t budget, uint32_t *list, size_t list_len,
                        size_t start, samblokur_report *report);
 
-/* Takes an event: changes lookups and marks, moves the serial on and sets
- * Running. No step is done; call samblokur_run next. */
-uint32_t samblokur_take(const uint8_t *image, size_t image_len,
+/* One call per report. The event enters: it changes lookups and marks and moves
+ * the serial on. Then the plan runs as by samblokur_run; SPENT and NO_ROOM keep
+ * the event. */
+uint32_t samblokur_turn(const uint8_t *image, size_t image_len,
                         samblokur_state *state, samblokur_card *card,
                         const uint8_t *event, size_t event_len,
-                        samblokur_report *report);
+                        uint16_t budget, uint32_t *list, size_t list_len,
+                        size_t start, samblokur_report *report);
 
 /* The layout that the library was built for. */
 #ifdef __cplusplus

@@ -31,12 +31,7 @@ fn table() -> Result<(), Box<dyn Error>> {
     println!("{:>5}  {:<34}{:>12}{:>12}{:>8}", "nodes", "ns for each", "library", "plain", "ratio");
     for nodes in [10, 50, 250] {
         let tower = Tower::of(nodes)?;
-        row(
-            nodes,
-            "report (one turn to quiet)",
-            || report::<Library>(&tower),
-            || report::<Plain>(&tower),
-        );
+        row(nodes, "report (one turn to quiet)", || report::<Library>(&tower), || report::<Plain>(&tower));
         row(nodes, "micro step", || step::<Library>(&tower), || step::<Plain>(&tower));
         row(nodes, "check", || check::<Library>(&tower), || check::<Plain>(&tower));
     }

@@ -61,7 +61,11 @@ fn count(codes: &mut [u64], code: u8) {
 impl fmt::Display for Tally {
     fn fmt(&self, f: &mut fmt::Formatter<'_>) -> fmt::Result {
         writeln!(f, "calls {}, micro steps {}", self.calls, self.steps)?;
-        writeln!(f, "accepted {}; runs and turns to Quiet {}, Spent {}", self.accepted, self.quiet, self.spent)?;
+        writeln!(
+            f,
+            "accepted {}; runs and turns to Quiet {}, Spent {}",
+            self.accepted, self.quiet, self.spent
+        )?;
         write!(f, "refused ")?;
         for (number, met) in NUMBERS.iter().zip(self.refused) {
             write!(f, " {number}: {met}")?;

@@ -62,7 +62,10 @@ fn session<S: Executive, M: Executive>(
         let turned = turn(random, pair, &image, &mut memory, &event)?;
         promised(turned.number != 30, "a session meets 30")?;
         let entered = matches!(turned.number, 0 | 32);
-        promised(entered == (memory.card.serial != serial), "the event is kept by NoRoom and Spent, and no refusal")?;
+        promised(
+            entered == (memory.card.serial != serial),
+            "the event is kept by NoRoom and Spent, and no refusal",
+        )?;
     }
     Ok(())
 }

@@ -148,7 +148,8 @@ fn places_and_room() {
 
 #[test]
 fn places_and_room_of_a_turn() {
-    let plan = Records::default().lookup(BOOL).entry(2, BOOL, 0, 0, 0).list(NONE).command(0, 1).with(START, 0);
+    let plan =
+        Records::default().lookup(BOOL).entry(2, BOOL, 0, 0, 0).list(NONE).command(0, 1).with(START, 0);
     let mut table = Table::fresh(&plan);
     table.next = 65;
     assert_eq!((table.turn(0, &[], 100).number, table.card.serial), (31, 0));
