@@ -7,6 +7,7 @@ pub mod TestLaws
 pub mod LoopLaws
 pub mod Statuses
 pub mod KnownEnds
+pub mod KnownTurns
 pub mod Exactness
 pub mod Admitted
 pub mod OperatorNumbers

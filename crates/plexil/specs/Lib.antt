@@ -22,3 +22,4 @@ pub mod Assemble
 pub mod Play
 pub mod Everything
 pub mod KnownEnds
+pub mod KnownTurns
