@@ -19,6 +19,7 @@ use Rattle.plexil.proofs.ListLaws.{tested, same?}
 use Rattle.plexil.proofs.OperatorNumbers.{a-leaf, a-binary, no-operator, NoneOf, past}
 use Rattle.evaluate.specs.Binary.{joinOf}
 use Rattle.evaluate.specs.Condition.{conditionOr}
+use Rattle.evaluate.specs.Leaves.{leafAnswer}
 
 -- ---- the answer of two operands by the operator's number
 pub join-binary : (o : Binary) (x y : Worked) {n k : ℕ} {r : Worked} → n ≡ k → operatorOf k ≡ binary o → r ≡ binaryOf o x y → r ≡ joinOf (operatorOf n) x y
@@ -42,37 +43,10 @@ module _ (p : Image) (e : ℕ) {base a : ℕ} (at : base ≡ exprsAt p) where
   unfolding operandB exprAt
   is-b h = h ∙ ap (λ (b : ℕ). le16 p (b + 16 * e + 4)) at
 
--- ---- one step of depth
-pub value-none : (p : Image) (s : State) (d e : ℕ) → d ≡ 0 → Clash ≡ evalOf p s d e
-unfolding evalOf
-value-none p s d e h = rw h
-
--- entry e, whose section stands at base
-module _ (p : Image) (s : State) (d e : ℕ) {base op : ℕ} (deep : d ≡ 0 → ⊥) (at : base ≡ exprsAt p) (is : op ≡ byteAt p (base + 16 * e)) where
-  value : answerOf (operatorOf op) p s e (λ x. evalOf p s (d - 1) x) ≡ evalOf p s d e
-  unfolding evalOf operatorAt operator exprAt
-  value = rw (is, at) (sym (ap (λ k. evalOf p s k e) (pred-of d deep)))
-    where
-      pred-of : (d : ℕ) → (d ≡ 0 → ⊥) → d ≡ suc (d - 1)
-      pred-of d n = omega (arith, n)
-
-  pub value-leaf : (o : Leaf) {k : ℕ} {r : Worked} → op ≡ k → operatorOf k ≡ leaf o → r ≡ leafOf o p s e → r ≡ evalOf p s d e
-  unfolding answerOf
-  value-leaf o h q er = er ∙ (rw (h, q) at value)
-
-  module _ {a : ℕ} {x : Worked} (ea : a ≡ le16 p (base + 16 * e + 2)) (ex : x ≡ evalOf p s (d - 1) a) where
-    pub value-not : op ≡ 6 → notOf x ≡ evalOf p s d e
-    unfolding answerOf operatorOf
-    value-not h = rw (ex, is-a p e at ea) (rw h at value)
-
-    pub value-join : {b : ℕ} {y : Worked} → b ≡ le16 p (base + 16 * e + 4) → y ≡ evalOf p s (d - 1) b → NoneOf 0 7 op → joinOf (operatorOf op) x y ≡ evalOf p s d e
-    unfolding answerOf joinOf
-    value-join eb ey h = rw (ex, is-a p e at ea, ey, is-b p e at eb) (by (leb op 14) refl) ∙ value
-      where
-        by : (t : Bool) → leb op 14 ≡ t
-            → joinOf (operatorOf op) (evalOf p s (d - 1) (operandA p e)) (evalOf p s (d - 1) (operandB p e)) ≡ answerOf (operatorOf op) p s e (λ z. evalOf p s (d - 1) z)
-        by true t = rw (a-binary op (omega (arith, past 0 7 op h (omega arith))) (leb-true op 14 t) .1)
-        by false t = rw (no-operator op (leb-false op 14 t))
+-- ---- a number past 5 is no leaf
+pub no-leaf : (p : Image) (at op : ℕ) (s : State) → NoneOf 0 6 op → Clash ≡ leafAnswer p at op s
+unfolding leafAnswer
+no-leaf p at op s h = ap (λ (k : ℕ). leafAnswer p at k s) {x = suc (suc (suc (suc (suc (suc (op - 6))))))} {y = op} (omega (arith, past 0 6 op h (omega arith)))
 
 -- ---- a node's condition: `normal` is its default
 pub condition-or : (p : Image) (s : State) (i : ℕ) (c : Condition) → condition p s i c ≡ conditionOr p s i c (defaultOf p s i c)

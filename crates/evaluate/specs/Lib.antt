@@ -1,2 +1,4 @@
 pub mod Binary
 pub mod Condition
+pub mod Pending
+pub mod Leaves

@@ -1,4 +1,4 @@
-// The recursive evaluation of an expression entry, the remaining depth falling.
+// The evaluation of an expression entry without recursion: the operators that wait for an operand stand in arrays of twelve places.
 // The state's arrays are lent one by one, in State's order. An expression reads no mark, so that each contract holds for any.
 use super::binary::join;
 use super::leaves::cell_value;
@@ -8,16 +8,16 @@ use plexil::Worked;
 ghost use mathlib.Core.Path.{_≡_};
 ghost use mathlib.Core.List.{List};
 ghost use Prim.Native.Nat.{ℕ, _<_};
-ghost use Rattle.plexil.specs.Image.{exprsAt};
+ghost use Rattle.plexil.specs.Image.{exprsAt, operator, operandA, operandB, exprAt};
 ghost use Rattle.plexil.specs.Places.{stateOf};
-ghost use Rattle.plexil.specs.Expressions.{evalOf, valueOf};
+ghost use Rattle.plexil.specs.Expressions.{operatorAt, valueOf};
+ghost use Rattle.evaluate.specs.Leaves.{leafAnswer};
 
-// Entry e with left levels to go. The section's place is read once for all entries; the arrays bear stateOf's names.
-fn entry<'a>(
+// The answer of an entry without operands, whose record stands at `at`; any other number is no leaf.
+fn leaf<'a>(
     image: &'a [u8],
-    base: u32,
-    e: u16,
-    left: u8,
+    at: u32,
+    op: u8,
     st: &'a [u8],
     oc: &'a [u8],
     fl: &'a [u8],
@@ -26,17 +26,11 @@ fn entry<'a>(
     lt: &'a [u8],
     lb: &'a [u64],
 ) -> Worked
-    requires { ⌜ base ≡ exprsAt (now image) ⌝ }
-    requires { ⌜ base < 2000000 ⌝ }
-    ensures { λ r. ⌜ ((mark : List ℕ) → r ≡ evalOf (now (image .entry)) (stateOf (now (st .entry)) (now (oc .entry)) (now (fl .entry)) mark (now (vt .entry)) (now (vb .entry)) (now (lt .entry)) (now (lb .entry))) left e) ⌝ }
+    requires { ⌜ at < 4000000 ⌝ }
+    ensures { λ r. ⌜ ((mark : List ℕ) → r ≡ leafAnswer (now (image .entry)) at op (stateOf (now (st .entry)) (now (oc .entry)) (now (fl .entry)) mark (now (vt .entry)) (now (vb .entry)) (now (lt .entry)) (now (lb .entry)))) ⌝ }
 {
-    if left == 0 {
-        return Worked::Clash;
-    }
-    let at = base + 16 * (e as u32);
     let a = image::le16(image, at + 2);
     let b = image::le16(image, at + 4);
-    let op = image::byte_at(image, at);
     match op {
         0 => constant(b, image::byte_at(image, at + 1), image::le64(image, at + 8)),
         1 => cell_value(vt, vb, a),
@@ -44,47 +38,11 @@ fn entry<'a>(
         3 => code_is(st, a, b),
         4 => code_is(oc, a, b),
         5 => code_is(fl, a, b),
-        6 => values::not_of(entry(image, base, a, left - 1, st, oc, fl, vt, vb, lt, lb)),
-        _ => {
-            let x = entry(image, base, a, left - 1, st, oc, fl, vt, vb, lt, lb);
-            let y = entry(image, base, b, left - 1, st, oc, fl, vt, vb, lt, lb);
-            join(op, x, y)
-        }
+        _ => Worked::Clash,
     }
 }
 
-// Entry e with left levels to go.
-pub fn eval<'a>(
-    image: &'a [u8],
-    status: &'a [u8],
-    outcome: &'a [u8],
-    failure: &'a [u8],
-    vartags: &'a [u8],
-    varbits: &'a [u64],
-    looktags: &'a [u8],
-    lookbits: &'a [u64],
-    e: u16,
-    left: u8,
-) -> Worked
-    ensures { λ r. ⌜ ((mark : List ℕ) → r ≡ evalOf (now (image .entry)) (stateOf (now (status .entry)) (now (outcome .entry)) (now (failure .entry)) mark (now (vartags .entry)) (now (varbits .entry)) (now (looktags .entry)) (now (lookbits .entry))) left e) ⌝ }
-{
-    let base = image::exprs_at(image);
-    entry(
-        image,
-        base,
-        e,
-        left,
-        status,
-        outcome,
-        failure,
-        vartags,
-        varbits,
-        looktags,
-        lookbits,
-    )
-}
-
-// "an expression tree is at most 12 deep"
+// "an expression tree is at most 12 deep": as many operators can be pending.
 pub fn value_of<'a>(
     image: &'a [u8],
     status: &'a [u8],
@@ -98,16 +56,72 @@ pub fn value_of<'a>(
 ) -> Worked
     ensures { λ r. ⌜ ((mark : List ℕ) → r ≡ valueOf (now (image .entry)) (stateOf (now (status .entry)) (now (outcome .entry)) (now (failure .entry)) mark (now (vartags .entry)) (now (varbits .entry)) (now (looktags .entry)) (now (lookbits .entry))) e) ⌝ }
 {
-    eval(
-        image,
-        status,
-        outcome,
-        failure,
-        vartags,
-        varbits,
-        looktags,
-        lookbits,
-        e,
-        12,
-    )
+    let base = image::exprs_at(image);
+    let mut ops = [0u8; 12];
+    let mut seconds = [0u16; 12];
+    let mut firsts = [Worked::Clash; 12];
+    let mut n: usize = 0;
+    let mut left: u8 = 12;
+    let mut down = true;
+    let mut e = e;
+    let mut v = Worked::Clash;
+    loop {
+        if down {
+            let at = base + 16 * (e as u32);
+            let op = image::byte_at(image, at);
+            if left == 0 {
+                v = Worked::Clash;
+                down = false;
+                continue;
+            }
+            if op > 14 {
+                v = Worked::Clash;
+                down = false;
+                continue;
+            }
+            if op < 6 {
+                v = leaf(
+                    image,
+                    at,
+                    op,
+                    status,
+                    outcome,
+                    failure,
+                    vartags,
+                    varbits,
+                    looktags,
+                    lookbits,
+                );
+                down = false;
+                continue;
+            }
+            ops[n] = op;
+            seconds[n] = image::le16(image, at + 4);
+            e = image::le16(image, at + 2);
+            n += 1;
+            left -= 1;
+            continue;
+        }
+        if n == 0 {
+            return v;
+        }
+        let top = n - 1;
+        let op = ops[top];
+        if op == 6 {
+            v = values::not_of(v);
+            n = top;
+            left += 1;
+            continue;
+        }
+        if op < 16 {
+            firsts[top] = v;
+            ops[top] = op + 16;
+            e = seconds[top];
+            down = true;
+            continue;
+        }
+        v = join(op - 16, firsts[top], v);
+        n = top;
+        left += 1;
+    }
 }

@@ -7,5 +7,4 @@ mod leaves;
 pub use conditions::condition;
 pub use conditions::fails;
 pub use conditions::holds;
-pub use entries::eval;
 pub use entries::value_of;
