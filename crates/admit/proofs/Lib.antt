@@ -3,3 +3,5 @@ pub mod DepthLaws
 pub mod Ordered
 pub mod DepthTable
 pub mod Verdicts
+mod Above
+mod OwnerLaws

@@ -2,6 +2,7 @@
 mod depth;
 mod kinds;
 mod numbers;
+mod owners;
 mod reach;
 mod rules;
 

@@ -14,6 +14,7 @@ pub mod OperatorNumbers
 pub mod OperatorKinds
 pub mod EntryKinds
 pub mod ClashExact
+pub mod GoodNode
 pub mod NoClash
 pub mod CellsKept
 pub mod Moves

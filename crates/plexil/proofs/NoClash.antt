@@ -1,22 +1,21 @@
 -- No expression meets a value of another kind: no entry read is a Clash, a condition is a Bool or Unknown, an assignment's value has its target's kind.
 use Prim.Native.Nat.{ℕ, _<_}
-use mathlib.Core.Path.{_≡_, refl, sym, _∙_}
-use mathlib.Core.Bool.{Bool, true, false, true≢false}
-use mathlib.Core.List.{[], _∷_}
+use mathlib.Core.Path.{_≡_, refl}
+use mathlib.Core.Bool.{true, false}
 use lib.Dec.{eqb}
-use borrow.Author.Tests.{ltb-true, eqb-true}
+use borrow.Author.Tests.{eqb-true}
 use Rattle.plexil.specs.declared.Worked.the-variants.{Clash}
 use Rattle.plexil.specs.declared.State.{State}
 use Rattle.plexil.specs.declared.Condition.{Condition}
-use Rattle.plexil.specs.declared.Condition.the-variants.{Skip, Start, Pre, Inv, End, Post, Repeat}
-use Rattle.plexil.specs.Lists.{if_then_else_, some}
-use Rattle.plexil.specs.Image.{Image, default, nodeCount, exprCount, nodeType, conditionField, what, valueField, resultKind, varKind}
+use Rattle.plexil.specs.Lists.{if_then_else_}
+use Rattle.plexil.specs.Image.{Image, default, nodeCount, exprCount, conditionField, what, valueField, resultKind, varKind}
 use Rattle.plexil.specs.Expressions.{valueOf}
-use Rattle.plexil.specs.Records.{isList, isCommand, isAssignment, allConditions, goodCondition, goodWhat, goodNode}
+use Rattle.plexil.specs.Records.{isAssignment}
 use Rattle.plexil.specs.Scope.{shallow, givenPass, ifAssignment, goodKinds}
 use Rattle.plexil.specs.Atomic.{condition}
 use Rattle.plexil.specs.Promises.{IsAdmitted, IsKept, Reads, itself, ofNot, leftOf, rightOf, NoClash}
-use Rattle.plexil.proofs.ListLaws.{if-either, every-at, every-stop, some-cons}
+use Rattle.plexil.proofs.ListLaws.{if-either, every-at}
+use Rattle.plexil.proofs.GoodNode.{some-else, allConditions-at, given-below, value-below}
 use Rattle.plexil.proofs.Admitted.{good-node, good-kinds, is-shallow}
 use Rattle.plexil.proofs.OperatorKinds.{Has, bool}
 use Rattle.plexil.proofs.EntryKinds.{Within, operands-within, eval-has}
@@ -38,38 +37,17 @@ shallow-within p a e b = record { there = b; deep = is-shallow p a e b }
 pub no-clash : NoClash
 no-clash p s a t e k x b r h = clash-has (rw h at (eval-has p a s t k x (reads-within p a r (shallow-within p a e b))))
 
--- ---- tests of a node's record
-some-else : (a b : Bool) → some (a ∷ b ∷ []) ≡ true → a ≡ false → b ≡ true
-unfolding some if_then_else_
-some-else true b h e = absurd (true≢false e)
-some-else false true h e = refl
-some-else false false h e = h
-
-allConditions-at : (f : Condition → Bool) → allConditions f ≡ true → (c : Condition) → f c ≡ true
-unfolding allConditions
-allConditions-at f h Skip = every-at _ 0 h
-allConditions-at f h Start = every-at _ 1 h
-allConditions-at f h Pre = every-at _ 2 h
-allConditions-at f h Inv = every-at _ 3 h
-allConditions-at f h End = every-at _ 4 h
-allConditions-at f h Post = every-at _ 5 h
-allConditions-at f h Repeat = every-at _ 6 h
-
+-- ---- the entries of a node's record
 module _ (p : Image) (a : IsAdmitted p) (i : ℕ) (b : i < nodeCount p) where
   given-there : (c : Condition) → eqb (conditionField p i c) default ≡ false → conditionField p i c < exprCount p
-  unfolding goodNode goodCondition
-  given-there c e = ltb-true _ _ (some-else _ _ (allConditions-at _ (every-at _ 2 (good-node p a i b)) c) e)
+  given-there = given-below p i (good-node p a i b)
 
   given-bool : (c : Condition) → eqb (conditionField p i c) default ≡ false → resultKind p (conditionField p i c) ≡ 0
   unfolding goodKinds givenPass
   given-bool c e = eqb-true _ _ (some-else _ _ (allConditions-at _ (every-at _ 0 (good-kinds p a i b)) c) e)
 
   value-there : isAssignment p i ≡ true → valueField p i < exprCount p
-  unfolding goodNode goodWhat isList isCommand isAssignment
-  value-there t =
-      let n : nodeType p i ≡ 2 = eqb-true _ _ t in
-      let notList = sym (some-cons _ _ (every-stop _ _ (rw n))) ∙ every-at _ 1 (good-node p a i b) in
-      ltb-true _ _ (every-at _ 2 (some-else _ _ notList (every-stop _ _ (rw n))))
+  value-there = value-below p i (good-node p a i b)
 
   value-kind : isAssignment p i ≡ true → resultKind p (valueField p i) ≡ varKind p (what p i)
   unfolding goodKinds ifAssignment

@@ -9,13 +9,13 @@ unfolding allConditions givenPass
 conditions-in-scope-spec =
     tie.close
     (tie.spec
-    (λ _ _. tt)
-    (λ _ _. tt)
-    (λ _ _. tt)
-    (λ _ _. tt)
-    (λ _ _. tt)
-    (λ _ _. tt)
-    (λ _ _. tt)
+    (λ c κs. c .before .pre)
+    (λ c κs. c .before .before .pre)
+    (λ c κs. c .before .before .before .pre)
+    (λ c κs. c .before .before .before .before .pre)
+    (λ c κs. c .before .before .before .before .before .pre)
+    (λ c κs. c .before .before .before .before .before .before .pre)
+    (λ c κs. c .before .before .before .before .before .before .before .pre)
     (λ _ _. tt)
     (λ c.
     rw (

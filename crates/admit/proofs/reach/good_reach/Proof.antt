@@ -10,7 +10,7 @@ unfolding goodReach
 good-reach-spec =
     tie.close
     (tie.spec
-    (λ _ _. tt)
-    (λ _ _. tt)
+    (λ c κs. c .before .pre)
+    (λ c κs. c .before .before .before .pre)
     (λ c. and-then _ (sym (c .before .before .conditions-in-scope .ensures) ∙ c .before .if1 .taken) (and-last (c .assignment-in-scope .ensures)))
     (λ c. one-fails _ 0 (sym (c .before .conditions-in-scope .ensures) ∙ c .if1 .left)))

@@ -96,7 +96,14 @@ of-records-spec =
     (λ c. search needs)
     (λ c. stop (after-deep (c .before .before .before .before)) (c .before .i7 .given .1) (c .before .before .before .broken-kind .ensures))
     (λ c. search needs)
-    (λ _ _. tt)
+    (λ c κs. record {
+      count = c .before .before .before .before .before .before .before .before .before .before .before .before .before .before .before .before .before .before .before .before .before .before .pre;
+      tree = kept (c .before .before .before .before .before .before .before .before .before .before .before .before .before .before .before .before .before .before .enum-told .given .1) (c .before .before .before .before .before .before .before .before .before .before .before .before .before .before .before .before .before .before .before .before .broken-tree .ensures);
+      node = kept (c .before .before .before .before .before .before .before .before .before .before .before .before .before .before .before .enum-told2 .given .1) (c .before .before .before .before .before .before .before .before .before .before .before .before .before .before .before .before .before .broken-node .ensures);
+      variable = kept (c .before .before .before .before .before .before .before .before .before .before .before .before .enum-told3 .given .1) (c .before .before .before .before .before .before .before .before .before .before .before .before .before .before .broken-variable .ensures);
+      expression = kept (c .before .before .before .before .before .before .enum-told5 .given .1) (c .before .before .before .before .before .before .before .before .broken-expression .ensures);
+      deep = kept (c .before .before .before .enum-told6 .given .1) (c .before .before .before .before .before .broken-deep .ensures);
+    })
     (λ c. search needs)
     (λ c. stop (after-kind (c .before .before .before .before)) (c .before .i8 .given .1) (c .before .before .before .broken-reach .ensures))
     (λ c. search needs)
