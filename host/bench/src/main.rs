@@ -1,10 +1,12 @@
 //! The library beside the plain executive, in one run: ns for each report, each micro step, the check and an
-//! expression entry; then the stack that the library needs.
+//! expression entry; then the stack that the library was seen to take.
 
 mod measure;
+mod reading;
 mod stack;
 mod sum;
 mod tower;
+mod unfolding;
 
 use measure::Measure;
 use plain::Plain;
@@ -13,17 +15,22 @@ use samblokur_sys::{Executive, Library};
 use std::error::Error;
 use sum::Sum;
 use tower::Tower;
+use unfolding::Unfolding;
 
 /// How often each is measured; the least counts.
 const ROUNDS: usize = 15;
+
+/// Only the stack is measured.
+const STACK: &str = "--stack";
 
 fn main() -> Result<(), Box<dyn Error>> {
     let arguments: Vec<String> = std::env::args().skip(1).collect();
     match &arguments[..] {
         [] => table(),
-        [name, bytes] if name == stack::WITHIN => stack::within(bytes.parse()?),
-        [name, bytes] if name == stack::READING_WITHIN => stack::reading_within(bytes.parse()?),
-        _ => Err("usage: bench".into()),
+        [name] if name == STACK => stack_line(),
+        [name, levels, what] if name == stack::WITHIN => stack::within(levels.parse()?, what),
+        [name, bytes] if name == reading::WITHIN => reading::within(bytes.parse()?),
+        _ => Err(format!("usage: bench [{STACK}]").into()),
     }
 }
 
@@ -35,18 +42,29 @@ fn table() -> Result<(), Box<dyn Error>> {
         row(nodes, "micro step", || step::<Library>(&tower), || step::<Plain>(&tower));
         row(nodes, "check", || check::<Library>(&tower), || check::<Plain>(&tower));
     }
+    let unfolding = Unfolding::new()?;
+    row(
+        256,
+        "check, 12 entries that unfold",
+        || Measure::of(|| unfolding.check::<Library>()),
+        || Measure::of(|| unfolding.check::<Plain>()),
+    );
     entry_row(&Sum::new()?);
     for kilobytes in [1, 20, 200] {
         let text = texts::sized(kilobytes * 1000);
         row(
             kilobytes,
             "text read (KB instead of nodes)",
-            || reading(&texts::SUBJECT, &text),
-            || reading(&texts::MODEL, &text),
+            || read_text(&texts::SUBJECT, &text),
+            || read_text(&texts::MODEL, &text),
         );
     }
-    println!("stack of the deepest call: at most {} KB", stack::least(stack::WITHIN)? / 1024);
-    println!("stack of the deepest reading: at most {} KB", stack::least(stack::READING_WITHIN)? / 1024);
+    println!("stack of the deepest reading: at most {} KB", reading::least()? / 1024);
+    stack_line()
+}
+
+fn stack_line() -> Result<(), Box<dyn Error>> {
+    println!("measured at the deepest call: {} bytes", stack::measured()?);
     Ok(())
 }
 
@@ -92,7 +110,7 @@ fn check<E: Executive>(tower: &Tower) -> Measure {
     Measure::of(|| (0..10).map(|_| tower.check::<E>()).sum())
 }
 
-fn reading(reader: &dyn Reads, text: &[u8]) -> Measure {
+fn read_text(reader: &dyn Reads, text: &[u8]) -> Measure {
     let mut image = vec![0; 65536];
     Measure::of(|| {
         assert_eq!(reader.read(text, &mut image).number, 0, "a bench text is refused");

@@ -41,10 +41,16 @@ impl Sum {
 
     /// A fresh state, with the lookup 0.
     pub fn fresh<E: Executive>(&self) -> State {
-        let (mut state, mut card, mut report) = (State::default(), Card::default(), Report::default());
-        E::fresh(&self.image, &mut state, &mut card, &mut report);
-        state.looktags[0] = 2;
+        let mut state = State::default();
+        self.start::<E>(&mut state);
         state
+    }
+
+    /// The same, in a state that is there.
+    pub fn start<E: Executive>(&self, state: &mut State) {
+        let (mut card, mut report) = (Card::default(), Report::default());
+        E::fresh(&self.image, state, &mut card, &mut report);
+        state.looktags[0] = 2;
     }
 
     /// One run of the waiting plan, which is quiet at once; the count of runs.

@@ -113,13 +113,15 @@ fn kind(random: &mut Random, draft: &mut Draft) {
     }
 }
 
-/// A variable of one node that another reads or assigns.
+/// A variable of one node that another reads or assigns, or a tree over the variables of several nodes.
 fn reach(random: &mut Random, draft: &mut Draft) {
-    let nodes = draft.nodes.len() as u16;
-    let (owner, i) = (random.half(nodes), random.below(usize::from(nodes)));
+    let i = random.below(draft.nodes.len());
     let variable = draft.vars.len() as u16;
-    draft.vars.push(Variable { kind: 0, known: 1, owner, spare: 0, initial: 1 });
-    let entry = draft.push(Expression { operator: 1, a: variable, ..Expression::default() });
+    let mut entry = owned(random, draft);
+    for _ in 0..random.below(4) {
+        let other = owned(random, draft);
+        entry = draft.push(Expression { operator: 7, a: entry, b: other, ..Expression::default() });
+    }
     let value = draft.push(Expression { b: 1, ..Expression::default() });
     let node = &mut draft.nodes[i];
     if node.body == 2 && random.chance(50) {
@@ -127,4 +129,11 @@ fn reach(random: &mut Random, draft: &mut Draft) {
     } else {
         node.conditions[random.below(7)] = entry;
     }
+}
+
+/// An entry that reads a new variable of some node.
+fn owned(random: &mut Random, draft: &mut Draft) -> u16 {
+    let (owner, variable) = (random.half(draft.nodes.len() as u16), draft.vars.len() as u16);
+    draft.vars.push(Variable { kind: 0, known: 1, owner, spare: 0, initial: 1 });
+    draft.push(Expression { operator: 1, a: variable, ..Expression::default() })
 }

@@ -1,4 +1,4 @@
-//! Random plans that are admitted by construction.
+//! Random plans that are admitted by construction, and one whose expression unfolds.
 
 use crate::draft::{Draft, Expression, Lookup, NONE, Node, Variable};
 use crate::random::Random;
@@ -27,6 +27,31 @@ pub fn plan(random: &mut Random) -> Draft {
         maker.dress(node);
     }
     maker.draft
+}
+
+/// 256 nodes whose every condition is the last of 12 entries, each the AND of the one before it with itself; the first
+/// reads a variable of this owner.
+pub fn unfolding(owner: u16) -> Draft {
+    let mut draft = Draft::default();
+    draft.vars.push(Variable { kind: BOOL, known: 1, owner, spare: 0, initial: 1 });
+    let mut last = draft.push(Expression { operator: 1, ..Expression::default() });
+    for _ in 1..12 {
+        last = draft.push(Expression { operator: 7, a: last, b: last, ..Expression::default() });
+    }
+    draft.nodes = vec![
+        Node {
+            parent: 0,
+            body: LIST,
+            spare: 0,
+            priority: 0,
+            conditions: [last; 7],
+            what: NONE,
+            value: NONE
+        };
+        256
+    ];
+    draft.nodes[0].parent = NONE;
+    draft
 }
 
 impl Maker<'_> {

@@ -20,6 +20,9 @@ const RUNNING: u32 = 0;
 pub fn tour<S: Executive, M: Executive>(seed: u64, calls: u64) -> Result<Tally, Difference> {
     let mut random = Random::of(seed);
     let mut pair = Pair::<S, M>::new();
+    for owner in [0, 1, 255] {
+        pair.check(&plans::unfolding(owner).image())?;
+    }
     while pair.tally.calls < calls {
         let mut draft = plans::plan(&mut random);
         match random.below(10) {
