@@ -11,7 +11,7 @@ use Rattle.plexil.specs.Image.{Image, parent, operator, operandA, operandB}
 use Rattle.plexil.specs.Expressions.{Operator, operatorOf, operatorAt}
 use Rattle.plexil.specs.Scope.{isAbove, inScope, entryInScope, operandsPass, treeInScope}
 use Rattle.plexil.proofs.ListLaws.{if-same}
-use Rattle.plexil.proofs.OperatorNumbers.{a-leaf, a-binary, no-operator}
+use Rattle.plexil.proofs.OperatorNumbers.{a-leaf, a-binary}
 
 -- ---- up to node 0
 pub above-here : (p : Image) (n o i : ℕ) → 0 < n → o ≡ i → isAbove p n o i ≡ true
@@ -38,10 +38,6 @@ unfolding isAbove
 above-none p n o i e = rw e
 
 -- ---- down a tree
-pub tree-none : (p : Image) (i d e : ℕ) → d ≡ 0 → treeInScope p i d e ≡ false
-unfolding treeInScope
-tree-none p i d e h = rw h
-
 -- op is the operator of entry e
 module _ (p : Image) (i d e : ℕ) (deep : d ≡ 0 → ⊥) {op : ℕ} (is : op ≡ operator p e) where
   operands : Operator → Bool
@@ -67,10 +63,6 @@ module _ (p : Image) (i d e : ℕ) (deep : d ≡ 0 → ⊥) {op : ℕ} (is : op 
   pub tree-leaf : op < 6 → (op ≡ 1 → ⊥) → treeInScope p i d e ≡ true
   unfolding operands operandsPass
   tree-leaf h g = step-on g (a-leaf op h .1)
-
-  pub tree-no-operator : 14 < op → treeInScope p i d e ≡ true
-  unfolding operands operandsPass
-  tree-no-operator h = step-on (λ q. omega arith) (no-operator op h)
 
   pub tree-not : op ≡ 6 → treeInScope p i d e ≡ treeInScope p i (d - 1) (operandA p e)
   unfolding operands operatorOf operandsPass

@@ -1,5 +1,5 @@
 -- Rule 12 by a table: what the variables of each entry's tree ask of the node that reads them, as one number.
-use Prim.Native.Nat.{ℕ, zero, suc, _-_, _≤_, _<_}
+use Prim.Native.Nat.{ℕ, suc, _-_, _≤_, _<_}
 use mathlib.Core.Path.{_≡_}
 use mathlib.Core.Bool.{Bool, true, false}
 use mathlib.Core.List.{List}
@@ -7,10 +7,9 @@ use lib.Dec.{eqb}
 use lib.ListN.{length, getD}
 use Rattle.plexil.specs.declared.Rule.the-variants as rule
 use Rattle.plexil.specs.Lists.{if_then_else_, nowhere}
-use Rattle.plexil.specs.Image.{Image, nodeCount, exprCount}
+use Rattle.plexil.specs.Image.{Image, nodeCount}
 use Rattle.plexil.specs.Scope.{isAbove, treeInScope}
 use Rattle.records.specs.Broken.{lowestBroken}
-use Rattle.admit.specs.Depth.{Depth}
 
 -- owners on two branches, which no node is below
 abbrev pub nobody : ℕ

@@ -2,7 +2,7 @@
 use super::reach::is_above;
 ghost use mathlib.Core.Path.{_≡_};
 ghost use mathlib.Core.List.{[], _∷_};
-ghost use Prim.Native.Nat.{ℕ, suc, _<_};
+ghost use Prim.Native.Nat.{ℕ, _<_};
 ghost use Rattle.plexil.specs.Lists.{every};
 ghost use Rattle.plexil.specs.Image.{nodeCount, exprCount};
 ghost use Rattle.admit.specs.Owners.{allows, Asks, Asked, Ordered, Owned};

@@ -1,22 +1,20 @@
--- How the answer of an entry is made of its operands' answers, by its operator's number.
+-- Two operands' answer by the operator's number, the operands that the code reads of an entry, a number that is no leaf, and a condition with its default.
 use Prim.Native.Nat.{ℕ, suc, _+_, _-_, _*_}
-use mathlib.Core.Path.{_≡_, refl, sym, ap, _∙_}
+use mathlib.Core.Path.{_≡_, refl, ap, _∙_}
 use mathlib.Core.Logic.{⊎-elim}
-use mathlib.Core.Bool.{Bool, true, false}
 use native.Mathlib.Omega.{arith}
-use lib.Dec.{ltb, leb}
-use borrow.Author.Tests.{ltb-true, ltb-false, leb-true, leb-false}
+use lib.Dec.{ltb}
+use borrow.Author.Tests.{ltb-true, ltb-false}
 use Rattle.plexil.specs.declared.Worked.{Worked}
 use Rattle.plexil.specs.declared.Worked.the-variants.{Clash}
 use Rattle.plexil.specs.declared.State.{State}
 use Rattle.plexil.specs.declared.Condition.{Condition}
-use Rattle.plexil.specs.Values.{notOf}
-use Rattle.plexil.specs.Bytes.{byteAt, le16}
+use Rattle.plexil.specs.Bytes.{le16}
 use Rattle.plexil.specs.Image.{Image, exprsAt, exprAt, operator, operandA, operandB}
-use Rattle.plexil.specs.Expressions.{Leaf, Binary, leaf, binary, operatorOf, operatorAt, leafOf, binaryOf, answerOf, evalOf}
+use Rattle.plexil.specs.Expressions.{Binary, leaf, binary, operatorOf, binaryOf}
 use Rattle.plexil.specs.Atomic.{condition, defaultOf}
 use Rattle.plexil.proofs.ListLaws.{tested, same?}
-use Rattle.plexil.proofs.OperatorNumbers.{a-leaf, a-binary, no-operator, NoneOf, past}
+use Rattle.plexil.proofs.OperatorNumbers.{a-leaf, no-operator, NoneOf, past}
 use Rattle.evaluate.specs.Binary.{joinOf}
 use Rattle.evaluate.specs.Condition.{conditionOr}
 use Rattle.evaluate.specs.Leaves.{leafAnswer}

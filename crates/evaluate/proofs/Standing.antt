@@ -15,7 +15,6 @@ use Rattle.plexil.specs.Lists.{if_then_else_}
 use Rattle.plexil.specs.Values.{notOf}
 use Rattle.plexil.specs.Bytes.{byteAt, le16}
 use Rattle.plexil.specs.Image.{Image, exprsAt, exprAt, operator, operandA, operandB, resultKind, constant}
-use Rattle.plexil.specs.Places.{varCell, lookCell, valueIn}
 use Rattle.plexil.specs.Expressions.{operatorOf, operatorAt, answerOf, evalOf, valueOf, leafOf}
 use Rattle.plexil.proofs.OperatorNumbers.{a-binary, no-operator}
 use Rattle.evaluate.specs.Binary.{joinOf}

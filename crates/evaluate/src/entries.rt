@@ -8,9 +8,8 @@ use plexil::Worked;
 ghost use mathlib.Core.Path.{_≡_};
 ghost use mathlib.Core.List.{List};
 ghost use Prim.Native.Nat.{ℕ, _<_};
-ghost use Rattle.plexil.specs.Image.{exprsAt, operator, operandA, operandB, exprAt};
 ghost use Rattle.plexil.specs.Places.{stateOf};
-ghost use Rattle.plexil.specs.Expressions.{operatorAt, valueOf};
+ghost use Rattle.plexil.specs.Expressions.{valueOf};
 ghost use Rattle.evaluate.specs.Leaves.{leafAnswer};
 
 // The answer of an entry without operands, whose record stands at `at`; any other number is no leaf.

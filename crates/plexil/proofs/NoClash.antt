@@ -1,13 +1,12 @@
 -- No expression meets a value of another kind: no entry read is a Clash, a condition is a Bool or Unknown, an assignment's value has its target's kind.
 use Prim.Native.Nat.{ℕ, _<_}
-use mathlib.Core.Path.{_≡_, refl}
+use mathlib.Core.Path.{_≡_}
 use mathlib.Core.Bool.{true, false}
 use lib.Dec.{eqb}
 use borrow.Author.Tests.{eqb-true}
 use Rattle.plexil.specs.declared.Worked.the-variants.{Clash}
 use Rattle.plexil.specs.declared.State.{State}
 use Rattle.plexil.specs.declared.Condition.{Condition}
-use Rattle.plexil.specs.Lists.{if_then_else_}
 use Rattle.plexil.specs.Image.{Image, default, nodeCount, exprCount, conditionField, what, valueField, resultKind, varKind}
 use Rattle.plexil.specs.Expressions.{valueOf}
 use Rattle.plexil.specs.Records.{isAssignment}

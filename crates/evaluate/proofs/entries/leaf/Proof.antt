@@ -51,7 +51,10 @@ code-is-requires-3 c κs = search needs
 
 returns : tie.Need-returns
 unfolding leafAnswer
-returns c mark = rw (c .before .before .before .match .keys1, ← c .before .before .before .before .le162 .ensures, ← c .before .before .byte-at .ensures, ← c .before .le64 .ensures) (c .constant .ensures)
+returns c mark =
+    rw
+    (c .before .before .before .match .keys1, ← c .before .before .before .before .le162 .ensures, ← c .before .before .byte-at .ensures, ← c .before .le64 .ensures)
+    (c .constant .ensures)
 
 returns-2 : tie.Need-returns-2
 unfolding leafAnswer varCell valueIn

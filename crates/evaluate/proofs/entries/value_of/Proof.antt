@@ -1,30 +1,25 @@
 -- The loop's invariant: what is pending makes the entry's value of what goes on (`Standing`). The measure: the turns that are left at most.
-use Prim.Native.Nat.{ℕ, suc, _+_, _-_, _<_}
-use mathlib.Core.Path.{_≡_, refl, sym, ap, _∙_}
-use mathlib.Core.Bool.{true, false}
-use mathlib.Core.List.{List}
+use Prim.Native.Nat.{_+_, _<_}
+use mathlib.Core.Path.{refl}
 use native.Mathlib.Omega.{arith}
-use native.Mathlib.Numerals.{add-one}
-use lib.ListN.{length, getD}
 use borrow.Author.Needs.{needs}
 use Rattle.plexil.specs.Lists.{if_then_else_}
 use Rattle.plexil.specs.Places.{stateOf}
 use Rattle.plexil.specs.Expressions.{valueOf}
 use Rattle.image.proofs.Laws.{exprsAt-below}
-use Rattle.evaluate.specs.Pending.{resumed, current, turnsOf, pendingTurns, currentTurns}
+use Rattle.evaluate.specs.Pending.{resumed, current, pendingTurns, currentTurns}
 use Rattle.evaluate.proofs.PendingLaws.{up-less, push-less, pop-less, turn-less}
 use Rattle.evaluate.proofs.Standing.{Small, small-at, small-none, small-set, Standing, at-end, at-depth, at-none, at-leaf, at-operator, ends-not, ends-first, ends-second}
 use Rattle.evaluate.proofs.entries.value_of.Statement.{statement}
 use Rattle.evaluate.proofs.entries.value_of.Tie as tie
-use Rattle.evaluate.proofs.entries.value_of.Reads as reads
-use Rattle.evaluate.proofs.entries.value_of.Lts as lts
 
 abbrev Inv-loop : tie.InvT-loop
 Inv-loop image status outcome failure vartags varbits looktags lookbits e base ops₀ seconds₀ firsts₀ n₀ left₀ down₀ e₀ v₀ ops seconds firsts n left down e' v =
     (base < 2000000) × (e' < 65536) × Small seconds × Standing image (λ mark. stateOf status outcome failure mark vartags varbits looktags lookbits) e ops seconds firsts n left down e' v
 
 abbrev μ-loop : tie.MeasureT-loop
-μ-loop image status outcome failure vartags varbits looktags lookbits e base ops₀ seconds₀ firsts₀ n₀ left₀ down₀ e₀ v₀ ops seconds firsts n left down e' v = currentTurns down left + pendingTurns n ops left
+μ-loop image status outcome failure vartags varbits looktags lookbits e base ops₀ seconds₀ firsts₀ n₀ left₀ down₀ e₀ v₀ ops seconds firsts n left down e' v =
+    currentTurns down left + pendingTurns n ops left
 
 exprs-at-requires : tie.Need-exprs-at-requires Inv-loop μ-loop
 exprs-at-requires c κs = search needs
@@ -54,13 +49,24 @@ loop-less : tie.Need-loop-less Inv-loop μ-loop
 loop-less c = up-less _ _ _ (c .before .before .if1 .taken)
 
 loop-again : tie.Need-loop-again Inv-loop μ-loop
-loop-again c = (c .before .before .before .loop .inv .0, c .before .before .before .loop .inv .1, c .before .before .before .loop .inv .2, at-depth _ _ _ (rw (c .before .before .if1 .taken) at (c .before .before .before .loop .inv .3)) (c .if2 .taken))
+loop-again c = (
+  c .before .before .before .loop .inv .0,
+  c .before .before .before .loop .inv .1,
+  c .before .before .before .loop .inv .2,
+  at-depth _ _ _ (rw (c .before .before .if1 .taken) at (c .before .before .before .loop .inv .3)) (c .if2 .taken),
+)
 
 loop-less-2 : tie.Need-loop-less-2 Inv-loop μ-loop
 loop-less-2 c = up-less _ _ _ (c .before .before .before .if1 .taken)
 
 loop-again-2 : tie.Need-loop-again-2 Inv-loop μ-loop
-loop-again-2 c = (c .before .before .before .before .loop .inv .0, c .before .before .before .before .loop .inv .1, c .before .before .before .before .loop .inv .2, at-none _ _ _ (c .before .before .before .before .before .exprs-at .ensures) (c .before .if2 .left) (c .before .before .byte-at .ensures) (rw (c .before .before .before .if1 .taken) at (c .before .before .before .before .loop .inv .3)) (c .if3 .taken))
+loop-again-2 c = (
+  c .before .before .before .before .loop .inv .0,
+  c .before .before .before .before .loop .inv .1,
+  c .before .before .before .before .loop .inv .2,
+  at-none _ _ _ (c .before .before .before .before .before .exprs-at .ensures) (c .before .if2 .left) (c .before .before .byte-at .ensures)
+      (rw (c .before .before .before .if1 .taken) at (c .before .before .before .before .loop .inv .3)) (c .if3 .taken),
+)
 
 leaf-requires : tie.Need-leaf-requires Inv-loop μ-loop
 leaf-requires c κs = search needs
@@ -69,7 +75,15 @@ loop-less-3 : tie.Need-loop-less-3 Inv-loop μ-loop
 loop-less-3 c = up-less _ _ _ (c .before .before .before .before .before .if1 .taken)
 
 loop-again-3 : tie.Need-loop-again-3 Inv-loop μ-loop
-loop-again-3 c = (c .before .before .before .before .before .before .loop .inv .0, c .before .before .before .before .before .before .loop .inv .1, c .before .before .before .before .before .before .loop .inv .2, at-leaf _ _ _ (c .before .before .before .before .before .before .before .exprs-at .ensures) (c .before .before .before .if2 .left) (c .before .before .before .before .byte-at .ensures) (rw (c .before .before .before .before .before .if1 .taken) at (c .before .before .before .before .before .before .loop .inv .3)) (c .before .if4 .taken) (c .leaf .result) (c .leaf .ensures))
+loop-again-3 c = (
+  c .before .before .before .before .before .before .loop .inv .0,
+  c .before .before .before .before .before .before .loop .inv .1,
+  c .before .before .before .before .before .before .loop .inv .2,
+  at-leaf _ _ _ (c .before .before .before .before .before .before .before .exprs-at .ensures) (c .before .before .before .if2 .left)
+      (c .before .before .before .before .byte-at .ensures)
+      (rw (c .before .before .before .before .before .if1 .taken) at (c .before .before .before .before .before .before .loop .inv .3))
+      (c .before .if4 .taken) (c .leaf .result) (c .leaf .ensures),
+)
 
 array-write-ops : tie.Need-array-write-ops Inv-loop μ-loop
 array-write-ops c = search needs
@@ -102,7 +116,17 @@ loop-less-4 : tie.Need-loop-less-4 Inv-loop μ-loop
 loop-less-4 c = push-less _ _ _ _ _ (c .before .before .before .before .before .before .if1 .taken) (c .before .before .before .before .if2 .left) (omega arith) (omega arith)
 
 loop-again-4 : tie.Need-loop-again-4 Inv-loop μ-loop
-loop-again-4 c = (c .before .before .before .before .before .before .before .loop .inv .0, omega arith, small-set _ _ _ (omega arith) (c .before .before .before .before .before .before .before .loop .inv .2), rw (c .before .before .before .before .before .before .if1 .taken) (at-operator _ _ _ (c .before .before .before .before .before .before .before .before .exprs-at .ensures) (c .before .before .before .before .if2 .left) (c .before .before .before .before .before .byte-at .ensures) (rw (c .before .before .before .before .before .before .if1 .taken) at (c .before .before .before .before .before .before .before .loop .inv .3)) (λ h. omega (arith, c .before .before .if4 .left)) (omega arith) (c .le162 .result) (c .before .le16 .result) (c .le162 .ensures) (c .before .le16 .ensures)))
+loop-again-4 c = (
+  c .before .before .before .before .before .before .before .loop .inv .0,
+  omega arith,
+  small-set _ _ _ (omega arith) (c .before .before .before .before .before .before .before .loop .inv .2),
+  rw (c .before .before .before .before .before .before .if1 .taken)
+      (at-operator _ _ _ (c .before .before .before .before .before .before .before .before .exprs-at .ensures)
+      (c .before .before .before .before .if2 .left) (c .before .before .before .before .before .byte-at .ensures)
+      (rw (c .before .before .before .before .before .before .if1 .taken) at (c .before .before .before .before .before .before .before .loop .inv .3))
+      (λ h. omega (arith, c .before .before .if4 .left)) (omega arith) (c .le162 .result) (c .before .le16 .result) (c .le162 .ensures)
+      (c .before .le16 .ensures)),
+)
 
 returns : tie.Need-returns Inv-loop μ-loop
 returns c = at-end _ _ _ (rw (c .before .if1 .left) at (c .before .before .loop .inv .3)) (c .if5 .taken)
@@ -123,7 +147,14 @@ loop-less-5 : tie.Need-loop-less-5 Inv-loop μ-loop
 loop-less-5 c = pop-less _ _ _ _ (c .before .before .before .if1 .left) (c .before .before .if5 .left)
 
 loop-again-5 : tie.Need-loop-again-5 Inv-loop μ-loop
-loop-again-5 c = (c .before .before .before .before .loop .inv .0, c .before .before .before .before .loop .inv .1, c .before .before .before .before .loop .inv .2, rw (c .before .before .before .if1 .left) (ends-not _ _ _ (rw (c .before .before .before .if1 .left) at (c .before .before .before .before .loop .inv .3)) (c .before .before .if5 .left) (c .before .if6 .taken) (c .not-of .result) (c .not-of .ensures)))
+loop-again-5 c = (
+  c .before .before .before .before .loop .inv .0,
+  c .before .before .before .before .loop .inv .1,
+  c .before .before .before .before .loop .inv .2,
+  rw (c .before .before .before .if1 .left)
+      (ends-not _ _ _ (rw (c .before .before .before .if1 .left) at (c .before .before .before .before .loop .inv .3))
+      (c .before .before .if5 .left) (c .before .if6 .taken) (c .not-of .result) (c .not-of .ensures)),
+)
 
 mul-firsts : tie.Need-mul-firsts Inv-loop μ-loop
 mul-firsts c = search needs
@@ -147,7 +178,13 @@ loop-less-6 : tie.Need-loop-less-6 Inv-loop μ-loop
 loop-less-6 c = turn-less _ _ _ _ (c .before .before .before .if1 .left) (c .before .before .if5 .left) (omega arith) (c .before .if6 .left) (c .if7 .taken)
 
 loop-again-6 : tie.Need-loop-again-6 Inv-loop μ-loop
-loop-again-6 c = (c .before .before .before .before .loop .inv .0, small-at _ _ (c .before .before .before .before .loop .inv .2), c .before .before .before .before .loop .inv .2, ends-first _ _ _ (rw (c .before .before .before .if1 .left) at (c .before .before .before .before .loop .inv .3)) (c .before .before .if5 .left) (c .before .if6 .left) (c .if7 .taken))
+loop-again-6 c = (
+  c .before .before .before .before .loop .inv .0,
+  small-at _ _ (c .before .before .before .before .loop .inv .2),
+  c .before .before .before .before .loop .inv .2,
+  ends-first _ _ _ (rw (c .before .before .before .if1 .left) at (c .before .before .before .before .loop .inv .3)) (c .before .before .if5 .left)
+      (c .before .if6 .left) (c .if7 .taken),
+)
 
 mul-join : tie.Need-mul-join Inv-loop μ-loop
 mul-join c = search needs
@@ -165,7 +202,15 @@ loop-less-7 : tie.Need-loop-less-7 Inv-loop μ-loop
 loop-less-7 c = pop-less _ _ _ _ (c .before .before .before .before .before .if1 .left) (c .before .before .before .before .if5 .left)
 
 loop-again-7 : tie.Need-loop-again-7 Inv-loop μ-loop
-loop-again-7 c = (c .before .before .before .before .before .before .loop .inv .0, c .before .before .before .before .before .before .loop .inv .1, c .before .before .before .before .before .before .loop .inv .2, rw (c .before .before .before .before .before .if1 .left) (ends-second _ _ _ (rw (c .before .before .before .before .before .if1 .left) at (c .before .before .before .before .before .before .loop .inv .3)) (c .before .before .before .before .if5 .left) (c .before .before .if7 .left) (c .join .result) (c .join .ensures)))
+loop-again-7 c = (
+  c .before .before .before .before .before .before .loop .inv .0,
+  c .before .before .before .before .before .before .loop .inv .1,
+  c .before .before .before .before .before .before .loop .inv .2,
+  rw (c .before .before .before .before .before .if1 .left)
+      (ends-second _ _ _
+      (rw (c .before .before .before .before .before .if1 .left) at (c .before .before .before .before .before .before .loop .inv .3))
+      (c .before .before .before .before .if5 .left) (c .before .before .if7 .left) (c .join .result) (c .join .ensures)),
+)
 
 pub value-of-spec : {M : Type 1} → statement M
 value-of-spec =
