@@ -51,28 +51,20 @@ pub fn is_quiet(image: &[u8], s: State) -> bool
     requires { ⌜ IsAdmitted (now image) ⌝ }
     ensures { λ r. ⌜ r ≡ quiet (now (image .entry)) s ⌝ }
 {
-    let st = s.status;
-    let oc = s.outcome;
-    let fl = s.failure;
-    let mk = s.mark;
-    let vt = s.vartags;
-    let vb = s.varbits;
-    let lt = s.looktags;
-    let lb = s.lookbits;
-    let tests = test_children(image, &st);
+    let tests = test_children(image, &s.status);
     let finished = tests.finished;
     let resting = tests.resting;
     let n = image::node_count(image);
     all_stay(
         image,
-        &st,
-        &oc,
-        &fl,
-        &mk,
-        &vt,
-        &vb,
-        &lt,
-        &lb,
+        &s.status,
+        &s.outcome,
+        &s.failure,
+        &s.mark,
+        &s.vartags,
+        &s.varbits,
+        &s.looktags,
+        &s.lookbits,
         n,
         &finished,
         &resting,
