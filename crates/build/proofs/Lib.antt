@@ -1,0 +1,14 @@
+pub mod Codes
+pub mod Phrased
+pub mod Ending
+pub mod Puts
+pub mod EntryLaws
+pub mod Numbers
+pub mod OperatorLaws
+pub mod Growth
+pub mod Climbing
+pub mod Runs
+pub mod LiteralLaws
+pub mod KnownLaws
+pub mod LeafLaws
+pub mod PathLaws

@@ -1,0 +1,9 @@
+pub mod Flow
+pub mod Standing
+pub mod Steps
+pub mod Operators
+pub mod Hearsay
+pub mod Literals
+pub mod Known
+pub mod Named
+pub mod Questions
