@@ -1,0 +1,4 @@
+mod Copying
+mod Handed
+mod Stages
+pub mod Foretold

@@ -1,0 +1,3 @@
+pub mod Reply
+pub mod Limits
+pub mod Survey
