@@ -95,8 +95,17 @@ impl Executive for Nothing {
     }
 
     #[inline(never)]
-    fn turn(image: &[u8], state: &mut State, card: &mut Card, event: &[u8], report: &mut Report) -> u32 {
-        black_box((image, state, card, event, report)).0.len() as u32
+    fn turn(
+        image: &[u8],
+        state: &mut State,
+        card: &mut Card,
+        event: &[u8],
+        budget: u16,
+        list: &mut [u32],
+        start: usize,
+        report: &mut Report,
+    ) -> u32 {
+        black_box((image, state, card, event, budget, list, start, report)).0.len() as u32
     }
 }
 
