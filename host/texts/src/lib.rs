@@ -19,11 +19,12 @@ mod tally;
 mod tour;
 
 pub use pair::Difference;
-pub use sized::{deepest, sized};
+pub use sized::sized;
 pub use tally::Tally;
 pub use tour::{accepted, tour};
 
-/// The reader under test: the proved one, when its library is linked.
+/// The reader under test. The place is the proved reader's, which no library has yet: until then a wrong answer is told
+/// by the images that the generator knows and by the known answers, and not by the other reader.
 pub const SUBJECT: reader::PlainReader = reader::PlainReader;
 
 /// The reader that it is held against.
