@@ -2,7 +2,6 @@
 use atomic::applies;
 use atomic::move_of;
 use atomic::test_children;
-use plexil::State;
 ghost use mathlib.Core.Path.{_≡_};
 ghost use mathlib.Core.Bool.{false};
 ghost use Prim.Native.Nat.{ℕ, _<_};
@@ -47,24 +46,35 @@ fn all_stay<'a>(
     true
 }
 
-pub fn is_quiet(image: &[u8], s: State) -> bool
+// The state comes as its eight arrays, lent: by value it would stand on the stack once more.
+pub fn is_quiet<'a>(
+    image: &'a [u8],
+    st: &'a [u8],
+    oc: &'a [u8],
+    fl: &'a [u8],
+    mk: &'a [u8],
+    vt: &'a [u8],
+    vb: &'a [u64],
+    lt: &'a [u8],
+    lb: &'a [u64],
+) -> bool
     requires { ⌜ IsAdmitted (now image) ⌝ }
-    ensures { λ r. ⌜ r ≡ quiet (now (image .entry)) s ⌝ }
+    ensures { λ r. ⌜ r ≡ quiet (now (image .entry)) (stateOf (now (st .entry)) (now (oc .entry)) (now (fl .entry)) (now (mk .entry)) (now (vt .entry)) (now (vb .entry)) (now (lt .entry)) (now (lb .entry))) ⌝ }
 {
-    let tests = test_children(image, &s.status);
+    let tests = test_children(image, st);
     let finished = tests.finished;
     let resting = tests.resting;
     let n = image::node_count(image);
     all_stay(
         image,
-        &s.status,
-        &s.outcome,
-        &s.failure,
-        &s.mark,
-        &s.vartags,
-        &s.varbits,
-        &s.looktags,
-        &s.lookbits,
+        st,
+        oc,
+        fl,
+        mk,
+        vt,
+        vb,
+        lt,
+        lb,
         n,
         &finished,
         &resting,

@@ -15,7 +15,17 @@ fn good_card(image: &[u8], state: State, card: Card) -> bool
         return true;
     }
     if phase == 1 {
-        return micro::is_quiet(image, state);
+        return micro::is_quiet(
+            image,
+            &state.status,
+            &state.outcome,
+            &state.failure,
+            &state.mark,
+            &state.vartags,
+            &state.varbits,
+            &state.looktags,
+            &state.lookbits,
+        );
     }
     false
 }

@@ -77,7 +77,17 @@ pub(crate) fn run_steps(
             }
         }
     }
-    if micro::is_quiet(image, t) {
+    if micro::is_quiet(
+        image,
+        &t.status,
+        &t.outcome,
+        &t.failure,
+        &t.mark,
+        &t.vartags,
+        &t.varbits,
+        &t.looktags,
+        &t.lookbits,
+    ) {
         return ended(RunAnswer::Quiet, 1, steps, next, t, card);
     }
     ended(RunAnswer::Spent, 0, steps, next, t, card)

@@ -7,10 +7,10 @@ use Rattle.micro.proofs.rest.is_quiet.Tie as tie
 
 all-stay-requires : tie.Need-all-stay-requires
 all-stay-requires c κs = (
-  c .before .before .before .before .before .before .before .before .before .before .before .before .before .before .before .before .before .before .before .before .before .before .before .before .before .before .before .pre,
-  c .before .before .before .before .before .before .before .before .before .before .before .before .before .before .before .before .before .before .before .node-count .ensures,
-  λ i b. c .before .before .before .before .before .before .before .before .before .before .before .before .before .before .before .before .before .before .before .before .before .before .test-children .ensures .finished _ refl i b,
-  λ i b. c .before .before .before .before .before .before .before .before .before .before .before .before .before .before .before .before .before .before .before .before .before .before .test-children .ensures .resting _ refl i b,
+  c .before .before .before .before .before .before .before .before .before .before .before .before .before .before .before .pre,
+  c .before .before .node-count .ensures,
+  λ i b. c .before .before .before .before .before .test-children .ensures .finished _ refl i b,
+  λ i b. c .before .before .before .before .before .test-children .ensures .resting _ refl i b,
 )
 
 returns : tie.Need-returns

@@ -11,11 +11,11 @@ unfolding goodCard
 returns c = sym (some-stop _ _ (eq-eqb _ _ (c .if1 .taken)))
 
 is-quiet-requires : tie.Need-is-quiet-requires
-is-quiet-requires c κs = c .before .before .before .pre
+is-quiet-requires c κs = c .before .before .before .before .before .before .before .before .before .before .before .before .before .before .before .before .before .before .before .before .pre
 
 returns-2 : tie.Need-returns-2
 unfolding goodCard
-returns-2 c = c .is-quiet .ensures ∙ sym (some-cons _ _ (ne-eqb _ _ (c .before .before .if1 .left)) ∙ (some-one _ ∙ (every-cons _ _ (eq-eqb _ _ (c .before .if2 .taken)) ∙ every-one _)))
+returns-2 c = c .is-quiet .ensures ∙ sym (some-cons _ _ (ne-eqb _ _ (c .before .before .before .before .before .before .before .before .before .before .before .before .before .before .before .before .before .before .before .if1 .left)) ∙ (some-one _ ∙ (every-cons _ _ (eq-eqb _ _ (c .before .before .before .before .before .before .before .before .before .before .before .before .before .before .before .before .before .before .if2 .taken)) ∙ every-one _)))
 
 returns-3 : tie.Need-returns-3
 unfolding goodCard

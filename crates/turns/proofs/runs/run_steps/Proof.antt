@@ -79,27 +79,27 @@ loop-again : tie.Need-loop-again Inv-loop μ-loop
 loop-again c = let e = ended-done _ _ _ (c .before .before .before .before .before .step .ensures .0) (c .before .before .before .before .before .step .ensures .1) (c .enum-told3 .given .1) in going-on _ _ _ _ _ (c .before .before .before .before .before .before .before .before .loop .inv) (c .before .before .before .before .before .before .before .before .before .before .before .pre .0) (c .before .before .before .before .before .before .before .loop-test .taken) (e .0) (e .1) (e .2) (e .3) (e .4)
 
 is-quiet-requires : tie.Need-is-quiet-requires Inv-loop μ-loop
-is-quiet-requires c κs = c .before .before .before .before .pre .0
+is-quiet-requires c κs = c .before .before .before .before .before .before .before .before .before .before .before .before .before .before .before .before .before .before .before .before .before .pre .0
 
 ended-requires-3 : tie.Need-ended-requires-3 Inv-loop μ-loop
 ended-requires-3 c κs = tt
 
 same-length-3 : tie.Need-same-length-3 Inv-loop μ-loop
-same-length-3 c = c .before .before .before .before .loop .inv .long
+same-length-3 c = c .before .before .before .before .before .before .before .before .before .before .before .before .before .before .before .before .before .before .before .before .before .loop .inv .long
 
 returns-3 : tie.Need-returns-3 Inv-loop μ-loop
 unfolding endAnswer phaseAfter
-returns-3 c = reply-of _ atQuiet (going-quiet _ _ _ _ _ (c .before .before .before .before .loop .inv) (sym (c .before .before .is-quiet .ensures) ∙ c .before .if1 .taken)) (c .ended3 .ensures) refl
+returns-3 c = reply-of _ atQuiet (going-quiet _ _ _ _ _ (c .before .before .before .before .before .before .before .before .before .before .before .before .before .before .before .before .before .before .before .before .before .loop .inv) (sym (c .before .before .is-quiet .ensures) ∙ c .before .if1 .taken)) (c .ended3 .ensures) refl
 
 ended-requires-4 : tie.Need-ended-requires-4 Inv-loop μ-loop
 ended-requires-4 c κs = tt
 
 same-length-4 : tie.Need-same-length-4 Inv-loop μ-loop
-same-length-4 c = c .before .before .before .before .loop .inv .long
+same-length-4 c = c .before .before .before .before .before .before .before .before .before .before .before .before .before .before .before .before .before .before .before .before .before .loop .inv .long
 
 returns-4 : tie.Need-returns-4 Inv-loop μ-loop
 unfolding endAnswer phaseAfter
-returns-4 c = reply-of _ spent (going-spent _ _ _ _ _ (c .before .before .before .before .loop .inv) (omega (arith, c .before .before .before .loop-test .left, c .before .before .before .before .loop .inv .within)) (sym (c .before .before .is-quiet .ensures) ∙ c .before .if1 .left)) (c .ended4 .ensures) refl
+returns-4 c = reply-of _ spent (going-spent _ _ _ _ _ (c .before .before .before .before .before .before .before .before .before .before .before .before .before .before .before .before .before .before .before .before .before .loop .inv) (omega (arith, c .before .before .before .before .before .before .before .before .before .before .before .before .before .before .before .before .before .before .before .before .loop-test .left, c .before .before .before .before .before .before .before .before .before .before .before .before .before .before .before .before .before .before .before .before .before .loop .inv .within)) (sym (c .before .before .is-quiet .ensures) ∙ c .before .if1 .left)) (c .ended4 .ensures) refl
 
 pub run-steps-spec : {M : Type 1} → statement M
 run-steps-spec = tie.close (tie.spec Inv-loop μ-loop loop-holds mul-step sub-step part-step-start part-step-end step-requires enum-told ended-requires same-length returns enum-told-2 ended-requires-2 same-length-2 returns-2 enum-told-3 cast-next add-next add-steps loop-less loop-again is-quiet-requires ended-requires-3 same-length-3 returns-3 ended-requires-4 same-length-4 returns-4)
