@@ -1,10 +1,6 @@
-//! The C interface of include/samblokur_text.h as Rust sees it: the reader of plans as text, which runs at the desk,
-//! not in the cabinet.
-
-use std::mem::{offset_of, size_of};
+//! What a reader of plans as text answers. It runs at the desk, not in the cabinet.
 
 /// What reading a text answers.
-#[repr(C)]
 #[derive(Clone, Copy, Debug, Default, PartialEq, Eq)]
 pub struct TextReport {
     /// The paper's refusal number, 0 where the text is accepted.
@@ -14,14 +10,6 @@ pub struct TextReport {
     /// The length of the image; 0 on every refusal.
     pub length: u64,
 }
-
-// The layout that samblokur_text.h asserts on its side.
-const _: () = {
-    assert!(size_of::<TextReport>() == 24);
-    assert!(offset_of!(TextReport, number) == 0);
-    assert!(offset_of!(TextReport, place) == 8);
-    assert!(offset_of!(TextReport, length) == 16);
-};
 
 /// A reader: text into the image that is lent. Nothing is written on a refusal, nor ever beyond the image's length.
 pub trait Reads {
