@@ -1,5 +1,6 @@
 //! Two executives on the same random calls, compared byte for byte: state, card, list, counts and report.
 
+mod command;
 mod damage;
 mod difference;
 mod draft;
@@ -14,6 +15,7 @@ mod states;
 mod tally;
 mod tour;
 
+pub use command::command;
 pub use difference::Difference;
 pub use random::Random;
 pub use tally::Tally;

@@ -1,34 +1,15 @@
 //! The tool from outside: what it says, its exit statuses, and that no file makes it panic.
 
+mod outside;
+
+use outside::{example, said, scratch, tool};
 use std::fs;
-use std::path::{Path, PathBuf};
-use std::process::{Command, Output};
 
 /// The exit status of a Rust program that panicked.
 const PANIC: i32 = 101;
 
-fn example(name: &str) -> String {
-    let folder = Path::new(env!("CARGO_MANIFEST_DIR")).join("../examples");
-    folder.join(name).to_string_lossy().into_owned()
-}
-
-/// A file of this test's own.
-fn scratch(name: &str, bytes: &[u8]) -> String {
-    let file = PathBuf::from(env!("CARGO_TARGET_TMPDIR")).join(name);
-    fs::write(&file, bytes).expect("a scratch file");
-    file.to_string_lossy().into_owned()
-}
-
-fn tool(arguments: &[&str]) -> Output {
-    Command::new(env!("CARGO_BIN_EXE_samblokur")).args(arguments).output().expect("the tool runs")
-}
-
 fn status(arguments: &[&str]) -> i32 {
     tool(arguments).status.code().expect("no signal")
-}
-
-fn said(arguments: &[&str]) -> String {
-    String::from_utf8_lossy(&tool(arguments).stdout).into_owned()
 }
 
 #[test]

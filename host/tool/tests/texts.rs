@@ -1,30 +1,11 @@
 //! The tool on plans as text: the example texts' ends, what is said of a text that is refused, and the way from text
 //! to image and back.
 
+mod outside;
+
+use outside::{example, said, scratch, tool};
 use samblokur::{Condition, NodeId, PlanBuilder};
 use std::fs;
-use std::path::{Path, PathBuf};
-use std::process::{Command, Output};
-
-fn example(name: &str) -> String {
-    let folder = Path::new(env!("CARGO_MANIFEST_DIR")).join("../examples");
-    folder.join(name).to_string_lossy().into_owned()
-}
-
-/// A file of this test's own.
-fn scratch(name: &str, bytes: &[u8]) -> String {
-    let file = PathBuf::from(env!("CARGO_TARGET_TMPDIR")).join(name);
-    fs::write(&file, bytes).expect("a scratch file");
-    file.to_string_lossy().into_owned()
-}
-
-fn tool(arguments: &[&str]) -> Output {
-    Command::new(env!("CARGO_BIN_EXE_samblokur")).args(arguments).output().expect("the tool runs")
-}
-
-fn said(arguments: &[&str]) -> String {
-    String::from_utf8_lossy(&tool(arguments).stdout).into_owned()
-}
 
 /// What is told of a run with budget 100.
 fn ran(text: &str, events: Option<&str>) -> String {
