@@ -58,7 +58,7 @@ pub step-near : (a : Ahead) (k : ℕ) → Near a (stepOf a k .next)
 unfolding stepOf
 step-near a k = moved-near a (rowOf (a .at) k) (effectOf (rowOf (a .at) k .effect))
 
-never : {A : Type 0} {x : A} → none ≡ some x → ⊥
+pub never : {A : Type 0} {x : A} → none ≡ some x → ⊥
 never e = let z : _≡_ {A = ℕ} 0 1 = cc in omega arith
 
 -- a token of the text has come, and the machine has taken it

@@ -22,3 +22,5 @@ pub mod NothingPending
 pub mod CountFew
 pub mod Following
 pub mod FollowEnds
+pub mod Aptness
+pub mod FewSaid

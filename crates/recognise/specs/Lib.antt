@@ -8,3 +8,4 @@ pub mod Counting
 pub mod Recognised
 pub mod Room
 pub mod Reaching
+pub mod Aptness
