@@ -1,200 +1,174 @@
--- What one more saying adds to the kinds.
-use Prim.Native.Nat.{ℕ, zero, suc, _+_, _<_, _≤_, _-_}
-use mathlib.Core.Path.{_≡_, refl, ap, sym, _∙_}
-use mathlib.Core.Bool.{Bool, true, false, cond}
-use lib.Dec.{eqb}
-use mathlib.Core.List.{List, [], _∷_}
+-- What one more saying adds to the kinds of the variables.
+use Prim.Native.Nat.{ℕ, zero, suc, _+_, _-_, _≤_, _<_}
+use mathlib.Core.Path.{_≡_, refl, ap, sym, _∙_, subst}
+use mathlib.Core.Bool.{Bool, true, false, not, cond, _||_}
+use mathlib.Core.List.{List, [], _∷_, map}
 use native.Mathlib.Omega.{arith}
-use native.Mathlib.Numerals.{add-one}
-use lib.ListN.{length, take, set}
-use lib.Seq.{take-suc-set}
+use borrow.Author.Tests.{eqb-true, eq-eqb, ne-eqb, ltb-true, ltb-false}
+use lib.Dec.{eqb, ltb}
+use lib.ListN.{length, getD, set, length-set, length-map, List·getD-eq-default}
+use lib.Seq.{getD-set-same, getD-set-other}
+use Rattle.plexil.specs.Lists.{allBelow}
+use Rattle.plexil.proofs.ListLaws.{allBelow-at}
 use Rattle.grammar.specs.Spelling.{Token, Placed}
 use Rattle.grammar.specs.Table.{Said}
-use Rattle.notation.specs.Sayings as Sayings
-use Rattle.notation.specs.Sayings.{Saying}
-use Rattle.notation.specs.Hearing.{_▸_}
-use Rattle.recognise.specs.Codes.{sayOf}
+use Rattle.notation.specs.Sayings.{Kind, boolean, integer, float, Saying, silence}
+use Rattle.notation.specs.Draft.{Variable}
+use Rattle.notation.specs.Hearing.{_▸_, draftOf}
+use Rattle.notation.specs.Mapping.{kindCode, kindOfVariable}
+use Rattle.recognise.specs.Codes as Codes
+use Rattle.recognise.specs.Codes.{sayings, sayOf}
 use Rattle.names.specs.declared.walk.Walk.{Walk}
 use Rattle.names.specs.Roles as Roles
-use Rattle.names.specs.Roles.{Role, roleOf, roleNumber, detailOf}
-use Rattle.names.specs.Tale.{Tale, untold, tell, tellOf, settling}
-use Rattle.names.specs.Order.{Standing, declaring}
-use Rattle.names.specs.Kinds.{kindsOf, kindSaid, Kinded}
+use Rattle.names.specs.Roles.{Role, roleOf, roleNumber, kindNumber, detailOf}
+use Rattle.names.specs.Tale.{Tale, tell, tellOf, settling}
+use Rattle.names.specs.Order.{Standing}
+use Rattle.names.specs.Answers.{Accepted, taleSaid}
+use Rattle.names.specs.Kinds.{Kinded}
 use Rattle.names.proofs.Halfway.{Newly}
-use Rattle.names.proofs.ViewLaws.{length-snoc}
+use Rattle.names.proofs.Told.{told}
+use Rattle.names.proofs.ViewLaws.{length-snoc, getD-snoc-other, getD-snoc-last}
 
-settling-lookups : (h : List Placed) (b : Tale) → settling h b .lookupKinds ≡ b .lookupKinds
-unfolding settling
-settling-lookups [] b = refl
-settling-lookups (t ∷ ts) b = refl
+-- ---- a variable's kind is the number of its saying less 20
+by-number : Token → ℕ → Bool
+by-number t n = not (eqb (roleNumber (roleOf (sayOf n))) 2) || eqb (detailOf (sayOf n) t) (n - 20)
 
-settling-variables : (h : List Placed) (b : Tale) → settling h b .variableKinds ≡ b .variableKinds
-unfolding settling
-settling-variables [] b = refl
-settling-variables (t ∷ ts) b = refl
+all-by-number : (t : Token) → allBelow 94 (by-number t) ≡ true
+unfolding allBelow by-number Codes.opened Roles.opened
+all-by-number t = refl
 
-module _ (k : ℕ) (t : Placed) (b : Tale) where
-  lookups-kept : (r : Role) → (roleNumber r ≡ 1 → ⊥) → tellOf r k t b .lookupKinds ≡ b .lookupKinds
-  unfolding Roles.opened tellOf
-  lookups-kept Role.other e = refl
-  lookups-kept Role.number e = refl
-  lookups-kept Role.command e = refl
-  lookups-kept Role.lookup e = absurd (e refl)
-  lookups-kept Role.variable e = refl
-  lookups-kept Role.named e = refl
-  lookups-kept Role.unnamed e = refl
-  lookups-kept Role.opens e = refl
-  lookups-kept Role.shuts e = refl
-  lookups-kept Role.call e = refl
-  lookups-kept Role.assign e = refl
-  lookups-kept Role.read e = refl
-  lookups-kept Role.mention e = refl
-  lookups-kept Role.descend e = refl
-  lookups-kept Role.ask e = refl
-  lookups-kept Role.settle e = settling-lookups (b .held) b
+silent-beyond : (n : ℕ) → 94 ≤ n → roleNumber (roleOf (sayOf n)) ≡ 15
+unfolding Codes.opened Roles.opened
+silent-beyond n h = rw (List·getD-eq-default sayings silence {n = n} h)
 
-  lookups-more : (r : Role) → roleNumber r ≡ 1 → tellOf r k t b .lookupKinds ≡ b .lookupKinds ▸ k
-  unfolding Roles.opened tellOf
-  lookups-more Role.other e = absurd (omega arith)
-  lookups-more Role.number e = absurd (omega arith)
-  lookups-more Role.command e = absurd (omega arith)
-  lookups-more Role.lookup e = refl
-  lookups-more Role.variable e = absurd (omega arith)
-  lookups-more Role.named e = absurd (omega arith)
-  lookups-more Role.unnamed e = absurd (omega arith)
-  lookups-more Role.opens e = absurd (omega arith)
-  lookups-more Role.shuts e = absurd (omega arith)
-  lookups-more Role.call e = absurd (omega arith)
-  lookups-more Role.assign e = absurd (omega arith)
-  lookups-more Role.read e = absurd (omega arith)
-  lookups-more Role.mention e = absurd (omega arith)
-  lookups-more Role.descend e = absurd (omega arith)
-  lookups-more Role.ask e = absurd (omega arith)
-  lookups-more Role.settle e = absurd (omega arith)
-
-  variables-kept : (r : Role) → (roleNumber r ≡ 2 → ⊥) → tellOf r k t b .variableKinds ≡ b .variableKinds
-  unfolding Roles.opened tellOf
-  variables-kept Role.other e = refl
-  variables-kept Role.number e = refl
-  variables-kept Role.command e = refl
-  variables-kept Role.lookup e = refl
-  variables-kept Role.variable e = absurd (e refl)
-  variables-kept Role.named e = refl
-  variables-kept Role.unnamed e = refl
-  variables-kept Role.opens e = refl
-  variables-kept Role.shuts e = refl
-  variables-kept Role.call e = refl
-  variables-kept Role.assign e = refl
-  variables-kept Role.read e = refl
-  variables-kept Role.mention e = refl
-  variables-kept Role.descend e = refl
-  variables-kept Role.ask e = refl
-  variables-kept Role.settle e = settling-variables (b .held) b
-
-  variables-more : (r : Role) → roleNumber r ≡ 2 → tellOf r k t b .variableKinds ≡ b .variableKinds ▸ k
-  unfolding Roles.opened tellOf
-  variables-more Role.other e = absurd (omega arith)
-  variables-more Role.number e = absurd (omega arith)
-  variables-more Role.command e = absurd (omega arith)
-  variables-more Role.lookup e = absurd (omega arith)
-  variables-more Role.variable e = refl
-  variables-more Role.named e = absurd (omega arith)
-  variables-more Role.unnamed e = absurd (omega arith)
-  variables-more Role.opens e = absurd (omega arith)
-  variables-more Role.shuts e = absurd (omega arith)
-  variables-more Role.call e = absurd (omega arith)
-  variables-more Role.assign e = absurd (omega arith)
-  variables-more Role.read e = absurd (omega arith)
-  variables-more Role.mention e = absurd (omega arith)
-  variables-more Role.descend e = absurd (omega arith)
-  variables-more Role.ask e = absurd (omega arith)
-  variables-more Role.settle e = absurd (omega arith)
-
--- a declaration's kind does not hang on its name
-detail-said : (x : Saying) (t : Token) → roleNumber (roleOf x) ≤ 2 → detailOf x t ≡ kindSaid x
-unfolding Roles.opened
-detail-said Sayings.silence t h = refl
-detail-said Sayings.declaresCommand t h = refl
-detail-said Sayings.numbersCommand t h = absurd (omega arith)
-detail-said (Sayings.declaresLookup k) t h = refl
-detail-said Sayings.names t h = refl
-detail-said Sayings.begins t h = refl
-detail-said Sayings.opensList t h = refl
-detail-said Sayings.closesList t h = refl
-detail-said Sayings.calls t h = refl
-detail-said Sayings.assigns t h = refl
-detail-said (Sayings.conditions k) t h = refl
-detail-said Sayings.ranks t h = refl
-detail-said (Sayings.declaresVariable k) t h = refl
-detail-said (Sayings.initialTruth b) t h = refl
-detail-said (Sayings.initialWhole b) t h = refl
-detail-said (Sayings.initialDecimal b) t h = refl
-detail-said (Sayings.initialBits b) t h = refl
-detail-said (Sayings.truth b) t h = refl
-detail-said (Sayings.whole b) t h = refl
-detail-said (Sayings.decimal b) t h = refl
-detail-said (Sayings.bits b) t h = refl
-detail-said (Sayings.unknown k) t h = refl
-detail-said Sayings.reads t h = refl
-detail-said Sayings.mentions t h = refl
-detail-said Sayings.descends t h = refl
-detail-said (Sayings.asks w n k) t h = refl
-detail-said Sayings.negates t h = refl
-detail-said (Sayings.operates o) t h = refl
-detail-said Sayings.parenthesis t h = refl
-detail-said Sayings.closes t h = refl
-detail-said Sayings.ends t h = refl
-
--- the two sorts
-twofold : (P : ℕ → Type 0) → P 1 → P 2 → (s : ℕ) → 1 ≤ s → s ≤ 2 → P s
-twofold P a b zero h k = absurd (omega arith)
-twofold P a b (suc zero) h k = a
-twofold P a b (suc (suc zero)) h k = b
-twofold P a b (suc (suc (suc s))) h k = absurd (omega arith)
-
--- `n` kinds have been told, and the array has them
-abbrev pub Kinding : ℕ → List ℕ → ℕ → Tale → Standing → Type 0
-Kinding s ks n b q = (n ≡ length (kindsOf s b)) × (n ≤ 128 → take n ks ≡ kindsOf s b)
-
-pub no-kinds : (s : ℕ) (ks : List ℕ) → Kinding s ks 0 untold declaring
-unfolding kindsOf
-no-kinds s ks = onto (eqb s 1)
+kind-by-number : (n : ℕ) (t : Token) → roleNumber (roleOf (sayOf n)) ≡ 2 → detailOf (sayOf n) t ≡ n - 20
+kind-by-number n t e = go (ltb n 94) refl
   where
-    onto : (t : Bool) → (0 ≡ length (cond {A = List ℕ} t [] [])) × (0 ≤ 128 → [] ≡ cond {A = List ℕ} t [] [])
-    onto true = (refl, λ h. refl)
-    onto false = (refl, λ h. refl)
+    passed : (b : Bool) → b ≡ true → not b || eqb (detailOf (sayOf n) t) (n - 20) ≡ true → eqb (detailOf (sayOf n) t) (n - 20) ≡ true
+    passed true h k = k
+    passed false h k = let z : _≡_ {A = ℕ} 0 1 = cc in absurd (omega arith)
 
-module _ (s : ℕ) (lo : 1 ≤ s) (hi : s ≤ 2) (ks : List ℕ) (m : ℕ) {u ls : List ℕ} {w : Walk} {l : List (Said Saying)} (n : Newly u ls w l (Kinding s ks m)) where
-  kinds-kept : (w .role ≡ s → ⊥) → kindsOf s (tell (n .said) (n .tale)) ≡ kindsOf s (n .tale)
-  unfolding tell kindsOf
-  kinds-kept e =
-      let d : ℕ = detailOf (n .said .what) (n .said .token .bytes) in
-      twofold (λ s. (w .role ≡ s → ⊥) → kindsOf s (tell (n .said) (n .tale)) ≡ kindsOf s (n .tale))
-      (λ f. lookups-kept d (n .said .token) (n .tale) (roleOf (n .said .what)) (λ y. f (n .tells .role ∙ y)))
-      (λ f. variables-kept d (n .said .token) (n .tale) (roleOf (n .said .what)) (λ y. f (n .tells .role ∙ y))) s lo hi e
+    go : (b : Bool) → ltb n 94 ≡ b → detailOf (sayOf n) t ≡ n - 20
+    go true h = eqb-true _ _ (passed _ (eq-eqb _ 2 e) (unfold by-number in allBelow-at 94 (by-number t) (all-by-number t) n (ltb-true n 94 h)))
+    go false h = absurd (omega (arith, silent-beyond n (ltb-false n 94 h)))
 
-  kinds-more : w .role ≡ s → kindsOf s (tell (n .said) (n .tale)) ≡ kindsOf s (n .tale) ▸ kindSaid (n .said .what)
-  unfolding tell kindsOf
+-- ---- one more saying
+settling-kinds : (h : List Placed) (b : Tale) → settling h b .variableKinds ≡ b .variableKinds
+unfolding settling
+settling-kinds [] b = refl
+settling-kinds (t ∷ ts) b = refl
+
+kinds-told : (r : Role) (k : ℕ) (t : Placed) (b : Tale) → tellOf r k t b .variableKinds ≡ cond (eqb (roleNumber r) 2) (b .variableKinds ▸ k) (b .variableKinds)
+unfolding Roles.opened tellOf
+kinds-told Role.other k t b = refl
+kinds-told Role.number k t b = refl
+kinds-told Role.command k t b = refl
+kinds-told Role.lookup k t b = refl
+kinds-told Role.variable k t b = refl
+kinds-told Role.named k t b = refl
+kinds-told Role.unnamed k t b = refl
+kinds-told Role.opens k t b = refl
+kinds-told Role.shuts k t b = refl
+kinds-told Role.call k t b = refl
+kinds-told Role.assign k t b = refl
+kinds-told Role.read k t b = refl
+kinds-told Role.mention k t b = refl
+kinds-told Role.descend k t b = refl
+kinds-told Role.ask k t b = refl
+kinds-told Role.settle k t b = settling-kinds (b .held) b
+
+-- ---- the table
+-- of the kinds l, where they are at most 128, there are n, and the table has them
+pub record Tabled (old ks : List ℕ) (n : ℕ) (l : List ℕ) : Type 0 where
+  pub size : length ks ≡ 704
+  pub room : n ≤ 128
+  pub kept : (i : ℕ) → i < 320 → getD ks i 0 ≡ getD old i 0
+  pub many : length l ≤ 128 → n ≡ length l
+  pub kinds : length l ≤ 128 → (i : ℕ) → i < n → getD ks (320 + i) 0 ≡ getD l i 0
+
+pub tabled-none : (ks : List ℕ) → length ks ≡ 704 → Tabled ks ks 0 []
+tabled-none ks e = record { size = e; room = omega arith; kept = λ i h. refl; many = λ h. refl; kinds = λ h i j. absurd (omega arith) }
+
+module _ (old ks : List ℕ) (n : ℕ) (l : List ℕ) (v : ℕ) (t : Tabled old ks n l) where
+  tabled-full : 128 ≤ n → Tabled old ks n (l ▸ v)
+  tabled-full h =
+      record {
+        size = t .size;
+        room = t .room;
+        kept = t .kept;
+        many = λ k. absurd (full k);
+        kinds = λ k. absurd (full k);
+      }
+    where
+      full : length (l ▸ v) ≤ 128 → ⊥
+      full k = let e = length-snoc l v in omega (arith, t .many (omega arith))
+
+  tabled-more : n < 128 → Tabled old (set ks (320 + n) v) (n + 1) (l ▸ v)
+  tabled-more h =
+      record {
+        size = length-set ks (320 + n) v ∙ t .size;
+        room = omega arith;
+        kept = λ i k. getD-set-other ks (320 + n) i v 0 (λ e. omega arith) ∙ t .kept i k;
+        many = λ k. let e = length-snoc l v in omega (arith, t .many (omega arith));
+        kinds = λ k i j. let e = length-snoc l v in at-place (omega arith) i j (ltb i n) refl;
+      }
+    where
+      at-place : length l ≤ 128 → (i : ℕ) → i < n + 1 → (b : Bool) → ltb i n ≡ b → getD (set ks (320 + n) v) (320 + i) 0 ≡ getD (l ▸ v) i 0
+      at-place k i j true e =
+          let m = ltb-true i n e in
+          getD-set-other ks (320 + n) (320 + i) v 0 (λ z. omega arith)
+          ∙ t .kinds k i m ∙ sym (getD-snoc-other l v 0 i (omega (arith, t .many k)))
+      at-place k i j false e =
+          let m : i ≡ n = omega (arith, ltb-false i n e) in
+          let q : i ≡ length l = m ∙ t .many k in
+          ap (λ x. getD (set ks (320 + n) v) (320 + x) 0) m
+          ∙ getD-set-same ks (320 + n) v 0 (omega (arith, t .size)) ∙ sym (ap (λ x. getD (l ▸ v) x 0) q ∙ getD-snoc-last l v 0)
+
+-- told so far are n kinds, and the table has them
+abbrev pub Kinding : List ℕ → List ℕ → ℕ → Tale → Standing → Type 0
+Kinding old ks n b q = Tabled old ks n (b .variableKinds)
+
+module _ (old ks : List ℕ) (m : ℕ) {u ls : List ℕ} {w : Walk} {l : List (Said Saying)} (n : Newly u ls w l (Kinding old ks m)) where
+  kinds-by : (b : Bool) → eqb (w .role) 2 ≡ b → tell (n .said) (n .tale) .variableKinds ≡ cond b (n .tale .variableKinds ▸ detailOf (n .said .what) (n .said .token .bytes)) (n .tale .variableKinds)
+  unfolding tell
+  kinds-by b e = kinds-told (roleOf (n .said .what)) _ (n .said .token) (n .tale) ∙ rw (← n .tells .role, e)
+
+  kinds-more : w .role ≡ 2 → tell (n .said) (n .tale) .variableKinds ≡ n .tale .variableKinds ▸ (w .cursor .says - 20)
   kinds-more e =
-      let d : ℕ = detailOf (n .said .what) (n .said .token .bytes) in
-      let z : d ≡ kindSaid (n .said .what) = detail-said (n .said .what) (n .said .token .bytes) (omega (arith, n .tells .role)) in
-      twofold (λ s. w .role ≡ s → kindsOf s (tell (n .said) (n .tale)) ≡ kindsOf s (n .tale) ▸ kindSaid (n .said .what))
-      (λ f. lookups-more d (n .said .token) (n .tale) (roleOf (n .said .what)) (sym (n .tells .role) ∙ f) ∙ rw z)
-      (λ f. variables-more d (n .said .token) (n .tale) (roleOf (n .said .what)) (sym (n .tells .role) ∙ f) ∙ rw z) s lo hi e
+      kinds-by true (eq-eqb _ 2 e)
+      ∙ ap (λ x. n .tale .variableKinds ▸ x)
+      (ap (λ x. detailOf x (n .said .token .bytes)) (sym (n .tells .says))
+      ∙ kind-by-number (w .cursor .says) (n .said .token .bytes) (ap (λ x. roleNumber (roleOf x)) (n .tells .says) ∙ sym (n .tells .role) ∙ e))
 
-  pub kinding-same : (w .role ≡ s → ⊥) → Kinding s ks m (tell (n .said) (n .tale)) (n .next)
-  kinding-same e = rw (kinds-kept e) (n .known)
+  pub kinding-same : (w .role ≡ 2 → ⊥) → Kinding old ks m (tell (n .said) (n .tale)) (n .next)
+  kinding-same e = rw (kinds-by false (ne-eqb _ 2 e)) (n .known)
 
-  pub kinding-full : w .role ≡ s → 128 ≤ m → Kinding s ks (m + 1) (tell (n .said) (n .tale)) (n .next)
-  kinding-full e h = rw (kinds-more e, length-snoc) (omega (arith, n .known .0), λ k. absurd (omega arith))
+  pub kinding-full : w .role ≡ 2 → 128 ≤ m → Kinding old ks m (tell (n .said) (n .tale)) (n .next)
+  kinding-full e h = rw (kinds-more e) (tabled-full old ks m _ _ (n .known) h)
 
-  pub kinding-more : (v : ℕ) → w .role ≡ s → m < 128 → length ks ≡ 128 → v ≡ kindSaid (sayOf (w .cursor .says)) → Kinding s (set ks m v) (m + 1) (tell (n .said) (n .tale)) (n .next)
-  unfolding _▸_
-  kinding-more v e h k f =
-      let y : v ≡ kindSaid (n .said .what) = f ∙ ap kindSaid (n .tells .says) in
-      let z : length (kindsOf s (n .tale) ▸ kindSaid (n .said .what)) ≡ suc (length (kindsOf s (n .tale))) = length-snoc (kindsOf s (n .tale)) (kindSaid (n .said .what)) in
-      rw (kinds-more e) (omega (arith, n .known .0, z), λ i. rw (add-one m, take-suc-set ks m v (omega arith), n .known .1 (omega arith), y))
+  pub kinding-more : (v : ℕ) → w .role ≡ 2 → m < 128 → v ≡ w .cursor .says - 20 → Kinding old (set ks (320 + m) v) (m + 1) (tell (n .said) (n .tale)) (n .next)
+  kinding-more v e h f = rw (kinds-more e, ← f) (tabled-more old ks m _ _ (n .known) h)
 
-pub kinded : (s : ℕ) (ks : List ℕ) (m : ℕ) (b : Tale) (q : Standing) → Kinding s ks m b q → Kinded s b ks
-unfolding Kinded
-kinded s ks m b q k h = rw (← k .0) (k .1 (omega (arith, k .0)))
+-- ---- the draft
+kind-code : (k : Kind) → kindNumber k ≡ kindCode k
+unfolding kindNumber kindCode
+kind-code boolean = refl
+kind-code integer = refl
+kind-code float = refl
+
+kind-of : (vs : List Variable) (i : ℕ) → getD (map (λ (v : Variable). kindNumber (v .kind)) vs) i 0 ≡ kindOfVariable vs i
+unfolding kindOfVariable
+kind-of [] i = refl
+kind-of (v ∷ vs) zero = kind-code (v .kind)
+kind-of (v ∷ vs) (suc i) = kind-of vs i
+
+pub kinded : (u : List ℕ) (l : List (Said Saying)) (old ks : List ℕ) (m : ℕ) → Accepted u l → Tabled old ks m (taleSaid l .variableKinds) → Kinded (draftOf l) old ks
+kinded u l old ks m a t =
+    let d = draftOf l in
+    let e : map (λ (v : Variable). kindNumber (v .kind)) (d .variables) ≡ taleSaid l .variableKinds = ap (λ (b : Tale). b .variableKinds) (told u l (a .says) .view) in
+    let n : length (taleSaid l .variableKinds) ≡ length (d .variables) = sym (ap length e) ∙ length-map (d .variables) (λ (v : Variable). kindNumber (v .kind)) in
+    record {
+      size = t .size;
+      kept = t .kept;
+      kinds = λ h i j. t .kinds (omega arith) i (omega (arith, t .many (omega arith))) ∙ rw (← e) (kind-of (d .variables) i);
+    }

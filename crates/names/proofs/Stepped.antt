@@ -188,7 +188,7 @@ module _ (t : Placed) (d : Draft) (s : List ℕ) (q r : Standing) (c : StandsIn 
 
   step-declaresLookup : (k : Sayings.Kind) → Step (Sayings.declaresLookup k)
   unfolding Hearing.opened Roles.opened Tale.opened after
-  step-declaresLookup k e = record { lists = s; stands = stands-declares (parentsOf (d .nodes)) (d .above) (d .depth) s q r e c; view = rw (map-snoc ofLookup, map-snoc (λ (l : Draft.Lookup). Roles.kindNumber (l .kind)), length-map) }
+  step-declaresLookup k e = record { lists = s; stands = stands-declares (parentsOf (d .nodes)) (d .above) (d .depth) s q r e c; view = rw (map-snoc ofLookup, length-map) }
 
   step-declaresVariable : (k : Sayings.Kind) → Step (Sayings.declaresVariable k)
   unfolding Hearing.opened Roles.opened Tale.opened after

@@ -69,12 +69,12 @@ kindNumber boolean = 0
 kindNumber integer = 1
 kindNumber float = 2
 
--- a declaration's kind, or a command's number
+-- a variable's kind, or a command's number
 unfoldable pub detailOf : Saying → Token → ℕ
 detailOf silence t = 0
 detailOf declaresCommand t = 0
 detailOf numbersCommand t = valueFrom 0 t
-detailOf (declaresLookup k) t = kindNumber k
+detailOf (declaresLookup k) t = 0
 detailOf names t = 0
 detailOf begins t = 0
 detailOf opensList t = 0

@@ -21,7 +21,6 @@ pub record Tale : Type 0 where
   pub variables : List Declared
   pub nodes : List Declared
   pub numbers : List ℕ
-  pub lookupKinds : List ℕ
   pub variableKinds : List ℕ
   pub levels : List ℕ
   pub lists : List ℕ
@@ -29,7 +28,7 @@ pub record Tale : Type 0 where
   pub held : List Placed
 
 abbrev pub untold : Tale
-untold = record { commands = []; lookups = []; variables = []; nodes = []; numbers = []; lookupKinds = []; variableKinds = []; levels = []; lists = []; mentions = []; held = [] }
+untold = record { commands = []; lookups = []; variables = []; nodes = []; numbers = []; variableKinds = []; levels = []; lists = []; mentions = []; held = [] }
 
 -- the declarations of a sort, by its number
 unfoldable pub listOf : ℕ → Tale → List Declared
@@ -56,19 +55,19 @@ parts n q [] = []
 parts n q (t ∷ ts) = record { mention = useOfNode n (q ▸ t .bytes); place = t .place } ∷ parts n (q ▸ t .bytes) ts
 
 abbrev pub withMention : Mention → ℕ → Tale → Tale
-withMention m n b = record { commands = b .commands; lookups = b .lookups; variables = b .variables; nodes = b .nodes; numbers = b .numbers; lookupKinds = b .lookupKinds; variableKinds = b .variableKinds; levels = b .levels; lists = b .lists; mentions = b .mentions ▸ record { mention = m; place = n }; held = b .held }
+withMention m n b = record { commands = b .commands; lookups = b .lookups; variables = b .variables; nodes = b .nodes; numbers = b .numbers; variableKinds = b .variableKinds; levels = b .levels; lists = b .lists; mentions = b .mentions ▸ record { mention = m; place = n }; held = b .held }
 
 abbrev pub withLists : List ℕ → Tale → Tale
-withLists s b = record { commands = b .commands; lookups = b .lookups; variables = b .variables; nodes = b .nodes; numbers = b .numbers; lookupKinds = b .lookupKinds; variableKinds = b .variableKinds; levels = b .levels; lists = s; mentions = b .mentions; held = b .held }
+withLists s b = record { commands = b .commands; lookups = b .lookups; variables = b .variables; nodes = b .nodes; numbers = b .numbers; variableKinds = b .variableKinds; levels = b .levels; lists = s; mentions = b .mentions; held = b .held }
 
 abbrev pub withParts : List Mentioned → List Placed → Tale → Tale
-withParts m h b = record { commands = b .commands; lookups = b .lookups; variables = b .variables; nodes = b .nodes; numbers = b .numbers; lookupKinds = b .lookupKinds; variableKinds = b .variableKinds; levels = b .levels; lists = b .lists; mentions = b .mentions ++ m; held = h }
+withParts m h b = record { commands = b .commands; lookups = b .lookups; variables = b .variables; nodes = b .nodes; numbers = b .numbers; variableKinds = b .variableKinds; levels = b .levels; lists = b .lists; mentions = b .mentions ++ m; held = h }
 
 abbrev pub withHeld : List Placed → Tale → Tale
-withHeld h b = record { commands = b .commands; lookups = b .lookups; variables = b .variables; nodes = b .nodes; numbers = b .numbers; lookupKinds = b .lookupKinds; variableKinds = b .variableKinds; levels = b .levels; lists = b .lists; mentions = b .mentions; held = h }
+withHeld h b = record { commands = b .commands; lookups = b .lookups; variables = b .variables; nodes = b .nodes; numbers = b .numbers; variableKinds = b .variableKinds; levels = b .levels; lists = b .lists; mentions = b .mentions; held = h }
 
 abbrev pub withNode : Token → Tale → Tale
-withNode x b = record { commands = b .commands; lookups = b .lookups; variables = b .variables; nodes = b .nodes ▸ record { name = x; owner = top (b .lists) }; numbers = b .numbers; lookupKinds = b .lookupKinds; variableKinds = b .variableKinds; levels = b .levels ▸ suc (length (b .lists)); lists = b .lists; mentions = b .mentions; held = b .held }
+withNode x b = record { commands = b .commands; lookups = b .lookups; variables = b .variables; nodes = b .nodes ▸ record { name = x; owner = top (b .lists) }; numbers = b .numbers; variableKinds = b .variableKinds; levels = b .levels ▸ suc (length (b .lists)); lists = b .lists; mentions = b .mentions; held = b .held }
 
 -- a held name was a variable's
 unfoldable pub settling : List Placed → Tale → Tale
@@ -78,10 +77,10 @@ settling (t ∷ ts) b = withHeld [] (withMention (useOfVariable (hereIn b) (t .b
 -- what a token of the role, with its detail k, adds
 unfoldable pub tellOf : Role → ℕ → Placed → Tale → Tale
 tellOf other k t b = b
-tellOf number k t b = record { commands = b .commands; lookups = b .lookups; variables = b .variables; nodes = b .nodes; numbers = atLast (λ n. k) (b .numbers); lookupKinds = b .lookupKinds; variableKinds = b .variableKinds; levels = b .levels; lists = b .lists; mentions = b .mentions; held = b .held }
-tellOf command k t b = withMention (Mention.command (length (b .commands))) (t .place) (record { commands = b .commands ▸ record { name = t .bytes; owner = 0 }; lookups = b .lookups; variables = b .variables; nodes = b .nodes; numbers = b .numbers ▸ 0; lookupKinds = b .lookupKinds; variableKinds = b .variableKinds; levels = b .levels; lists = b .lists; mentions = b .mentions; held = b .held })
-tellOf lookup k t b = withMention (Mention.lookup (length (b .lookups))) (t .place) (record { commands = b .commands; lookups = b .lookups ▸ record { name = t .bytes; owner = 0 }; variables = b .variables; nodes = b .nodes; numbers = b .numbers; lookupKinds = b .lookupKinds ▸ k; variableKinds = b .variableKinds; levels = b .levels; lists = b .lists; mentions = b .mentions; held = b .held })
-tellOf variable k t b = withMention (Mention.variable (length (b .variables))) (t .place) (record { commands = b .commands; lookups = b .lookups; variables = b .variables ▸ record { name = t .bytes; owner = hereIn b }; nodes = b .nodes; numbers = b .numbers; lookupKinds = b .lookupKinds; variableKinds = b .variableKinds ▸ k; levels = b .levels; lists = b .lists; mentions = b .mentions; held = b .held })
+tellOf number k t b = record { commands = b .commands; lookups = b .lookups; variables = b .variables; nodes = b .nodes; numbers = atLast (λ n. k) (b .numbers); variableKinds = b .variableKinds; levels = b .levels; lists = b .lists; mentions = b .mentions; held = b .held }
+tellOf command k t b = withMention (Mention.command (length (b .commands))) (t .place) (record { commands = b .commands ▸ record { name = t .bytes; owner = 0 }; lookups = b .lookups; variables = b .variables; nodes = b .nodes; numbers = b .numbers ▸ 0; variableKinds = b .variableKinds; levels = b .levels; lists = b .lists; mentions = b .mentions; held = b .held })
+tellOf lookup k t b = withMention (Mention.lookup (length (b .lookups))) (t .place) (record { commands = b .commands; lookups = b .lookups ▸ record { name = t .bytes; owner = 0 }; variables = b .variables; nodes = b .nodes; numbers = b .numbers; variableKinds = b .variableKinds; levels = b .levels; lists = b .lists; mentions = b .mentions; held = b .held })
+tellOf variable k t b = withMention (Mention.variable (length (b .variables))) (t .place) (record { commands = b .commands; lookups = b .lookups; variables = b .variables ▸ record { name = t .bytes; owner = hereIn b }; nodes = b .nodes; numbers = b .numbers; variableKinds = b .variableKinds ▸ k; levels = b .levels; lists = b .lists; mentions = b .mentions; held = b .held })
 tellOf named k t b = withMention (node (length (b .nodes))) (t .place) (withNode (t .bytes) b)
 tellOf unnamed k t b = withNode [] b
 tellOf opens k t b = withLists (length (b .nodes) ∷ b .lists) b

@@ -33,7 +33,6 @@ viewOf d s =
       variables = map ofVariable (d .variables);
       nodes = ofNodes (d .nodes);
       numbers = map (λ c. c .number) (d .commands);
-      lookupKinds = map (λ l. kindNumber (l .kind)) (d .lookups);
       variableKinds = map (λ v. kindNumber (v .kind)) (d .variables);
       levels = map (λ n. n .level) (d .nodes);
       lists = s;

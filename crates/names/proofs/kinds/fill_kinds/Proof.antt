@@ -1,39 +1,40 @@
--- `names::kinds::fill_kinds` meets its contract. The invariant: the array begins with the kinds that have been told.
-use Prim.Native.Nat.{_≤_, _-_}
+-- `names::kinds::fill_kinds` meets its contract. The invariant: the table has the kinds that have been told.
+use Prim.Native.Nat.{_-_}
 use mathlib.Core.Path.{_≡_, refl}
 use mathlib.Core.List.{List}
 use native.Mathlib.Omega.{arith}
 use borrow.Author.Needs.{needs}
-use lib.ListN.{length, length-set}
+use lib.ListN.{length}
 use Rattle.grammar.specs.Table.{Said}
 use Rattle.notation.specs.Sayings.{Saying}
 use Rattle.names.specs.Walking.{Bounded}
 use Rattle.names.specs.Answers.{Accepted}
-use Rattle.names.specs.Order.{declaring}
 use Rattle.names.proofs.Halfway.{Halfway, all-told, newly, halfway-start, onwards}
 use Rattle.names.proofs.Walks.{further}
-use Rattle.names.proofs.KindLaws.{Kinding, no-kinds, kinding-same, kinding-full, kinding-more, kinded}
+use Rattle.names.proofs.KindLaws.{Kinding, tabled-none, kinding-same, kinding-full, kinding-more, kinded}
 use Rattle.names.proofs.kinds.fill_kinds.Statement.{statement}
 use Rattle.names.proofs.kinds.fill_kinds.Tie as tie
 
 abbrev Inv-loop : tie.InvT-loop
-Inv-loop text sort kind₀ lists₀ w₀ n₀ kind lists w n =
-    Bounded w × (n ≤ w .cursor .at) × ((l : List (Said Saying)) → length kind₀ ≡ 128 → Accepted text l → (length kind ≡ 128) × Halfway text lists w l (Kinding sort kind n))
+Inv-loop text kind₀ lists₀ w₀ n₀ kind lists w n = Bounded w × ((l : List (Said Saying)) → length kind₀ ≡ 704 → Accepted text l → Halfway text lists w l (Kinding kind₀ kind n))
 
 abbrev μ-loop : tie.MeasureT-loop
-μ-loop text sort kind₀ lists₀ w₀ n₀ kind lists w n = 18446744073709551616 - w .cursor .at
+μ-loop text kind₀ lists₀ w₀ n₀ kind lists w n = 18446744073709551616 - w .cursor .at
 
 start-requires : tie.Need-start-requires Inv-loop μ-loop
 start-requires c κs = search needs
 
 loop-holds : tie.Need-loop-holds Inv-loop μ-loop
-loop-holds c = (c .start .ensures .bounded, omega arith, λ l x a. (x, halfway-start _ _ (c .start .result) (c .start .ensures) refl l a (no-kinds _ (c .before .before .args .kind .now))))
+loop-holds c = (c .start .ensures .bounded, λ l x a. halfway-start _ _ (c .start .result) (c .start .ensures) refl l a (tabled-none _ x))
 
 step-requires : tie.Need-step-requires Inv-loop μ-loop
 step-requires c κs = c .before .loop .inv .0
 
 returns : tie.Need-returns Inv-loop μ-loop
-returns c = λ l x a. kinded _ _ _ _ declaring (all-told _ _ _ _ _ (c .before .step .ensures) l a (c .if1 .taken) ((c .before .before .before .loop .inv .2 l x a) .1) .1)
+returns c l x a = kinded _ l _ _ _ a (all-told _ _ _ _ _ (c .before .step .ensures) l a (c .if1 .taken) (c .before .before .before .loop .inv .1 l x a) .1)
+
+add-j : tie.Need-add-j Inv-loop μ-loop
+add-j c = search needs
 
 kind-said-requires : tie.Need-kind-said-requires Inv-loop μ-loop
 kind-said-requires c κs = search needs
@@ -45,7 +46,7 @@ element-write-kind : tie.Need-element-write-kind Inv-loop μ-loop
 element-write-kind c = search needs
 
 add-n : tie.Need-add-n Inv-loop μ-loop
-add-n c = omega (arith, further (c .before .before .before .before .before .step .ensures) (c .before .before .before .before .if1 .left), c .before .before .before .before .before .step .ensures .bounded .place, c .before .before .before .before .before .before .before .loop .inv .1)
+add-n c = search needs
 
 loop-less : tie.Need-loop-less Inv-loop μ-loop
 loop-less c = omega (arith, further (c .before .before .before .before .before .step .ensures) (c .before .before .before .before .if1 .left), c .before .before .before .before .before .before .before .loop .inv .0 .place)
@@ -53,32 +54,25 @@ loop-less c = omega (arith, further (c .before .before .before .before .before .
 loop-again : tie.Need-loop-again Inv-loop μ-loop
 loop-again c = (
   c .before .before .before .before .before .step .ensures .bounded,
-  omega (arith, further (c .before .before .before .before .before .step .ensures) (c .before .before .before .before .if1 .left), c .before .before .before .before .before .before .before .loop .inv .1),
-  λ l x a. let n = newly _ _ _ _ _ (c .before .before .before .before .before .step .ensures) l a (c .before .before .before .before .if1 .left) ((c .before .before .before .before .before .before .before .loop .inv .2 l x a) .1) in
-      (rw length-set ((c .before .before .before .before .before .before .before .loop .inv .2 l x a) .0), onwards n (kinding-more _ (c .before .before .before .before .before .before .before .before .before .before .pre .0) (c .before .before .before .before .before .before .before .before .before .before .pre .1) _ _ n _ (c .before .if2 .taken) (c .if3 .taken) ((c .before .before .before .before .before .before .before .loop .inv .2 l x a) .0) (c .before .before .kind-said .ensures))),
+  λ l x a. let n = newly _ _ _ _ _ (c .before .before .before .before .before .step .ensures) l a (c .before .before .before .before .if1 .left) (c .before .before .before .before .before .before .before .loop .inv .1 l x a) in onwards n (kinding-more _ _ _ n _ (c .before .before .before .if2 .taken) (c .before .before .if3 .taken) (c .kind-said .ensures)),
 )
 
-add-n-2 : tie.Need-add-n-2 Inv-loop μ-loop
-add-n-2 c = omega (arith, further (c .before .before .before .before .before .step .ensures) (c .before .before .before .before .if1 .left), c .before .before .before .before .before .step .ensures .bounded .place, c .before .before .before .before .before .before .before .loop .inv .1)
-
 loop-less-2 : tie.Need-loop-less-2 Inv-loop μ-loop
-loop-less-2 c = omega (arith, further (c .before .before .before .before .before .step .ensures) (c .before .before .before .before .if1 .left), c .before .before .before .before .before .before .before .loop .inv .0 .place)
+loop-less-2 c = omega (arith, further (c .before .before .before .step .ensures) (c .before .before .if1 .left), c .before .before .before .before .before .loop .inv .0 .place)
 
 loop-again-2 : tie.Need-loop-again-2 Inv-loop μ-loop
 loop-again-2 c = (
-  c .before .before .before .before .before .step .ensures .bounded,
-  omega (arith, further (c .before .before .before .before .before .step .ensures) (c .before .before .before .before .if1 .left), c .before .before .before .before .before .before .before .loop .inv .1),
-  λ l x a. let n = newly _ _ _ _ _ (c .before .before .before .before .before .step .ensures) l a (c .before .before .before .before .if1 .left) ((c .before .before .before .before .before .before .before .loop .inv .2 l x a) .1) in ((c .before .before .before .before .before .before .before .loop .inv .2 l x a) .0, onwards n (kinding-full _ (c .before .before .before .before .before .before .before .before .before .before .pre .0) (c .before .before .before .before .before .before .before .before .before .before .pre .1) _ _ n (c .before .if2 .taken) (c .if3 .left))),
+  c .before .before .before .step .ensures .bounded,
+  λ l x a. let n = newly _ _ _ _ _ (c .before .before .before .step .ensures) l a (c .before .before .if1 .left) (c .before .before .before .before .before .loop .inv .1 l x a) in onwards n (kinding-full _ _ _ n (c .before .if2 .taken) (c .if3 .left)),
 )
 
 loop-less-3 : tie.Need-loop-less-3 Inv-loop μ-loop
-loop-less-3 c = omega (arith, further (c .before .before .before .before .step .ensures) (c .before .before .before .if1 .left), c .before .before .before .before .before .before .loop .inv .0 .place)
+loop-less-3 c = omega (arith, further (c .before .before .step .ensures) (c .before .if1 .left), c .before .before .before .before .loop .inv .0 .place)
 
 loop-again-3 : tie.Need-loop-again-3 Inv-loop μ-loop
 loop-again-3 c = (
-  c .before .before .before .before .step .ensures .bounded,
-  omega (arith, further (c .before .before .before .before .step .ensures) (c .before .before .before .if1 .left), c .before .before .before .before .before .before .loop .inv .1),
-  λ l x a. let n = newly _ _ _ _ _ (c .before .before .before .before .step .ensures) l a (c .before .before .before .if1 .left) ((c .before .before .before .before .before .before .loop .inv .2 l x a) .1) in ((c .before .before .before .before .before .before .loop .inv .2 l x a) .0, onwards n (kinding-same _ (c .before .before .before .before .before .before .before .before .before .pre .0) (c .before .before .before .before .before .before .before .before .before .pre .1) _ _ n (c .if2 .left))),
+  c .before .before .step .ensures .bounded,
+  λ l x a. let n = newly _ _ _ _ _ (c .before .before .step .ensures) l a (c .before .if1 .left) (c .before .before .before .before .loop .inv .1 l x a) in onwards n (kinding-same _ _ _ n (c .if2 .left)),
 )
 
 pub fill-kinds-spec : {M : Type 1} → statement M
@@ -91,13 +85,13 @@ fill-kinds-spec =
     loop-holds
     step-requires
     returns
+    add-j
     kind-said-requires
     mul-kind
     element-write-kind
     add-n
     loop-less
     loop-again
-    add-n-2
     loop-less-2
     loop-again-2
     loop-less-3
