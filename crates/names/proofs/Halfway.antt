@@ -9,6 +9,8 @@ use Rattle.grammar.specs.Table.{Said}
 use Rattle.notation.specs.Sayings.{Saying}
 use Rattle.notation.specs.Spoken.{spoken}
 use Rattle.notation.specs.Hearing.{draftOf}
+use Rattle.recognise.specs.Aptness.{Apt, AllApt}
+use Rattle.recognise.proofs.Aptness.{all-apt}
 use Rattle.names.specs.declared.walk.Walk.{Walk}
 use Rattle.names.specs.Roles.{Role, roleOf, roleNumber}
 use Rattle.names.specs.Tale.{Tale, untold, tell, tellAll, taleOf}
@@ -25,6 +27,7 @@ pub record Halfway (u ls : List ℕ) (w : Walk) (l : List (Said Saying)) (P : Ta
   pub standing : Standing
   pub rest : List (Said Saying)
   pub follows : Follows u ls w tale standing rest
+  pub apt : AllApt rest
   pub whole : tellAll rest tale ≡ taleSaid l
   pub known : P tale standing
 
@@ -34,11 +37,13 @@ pub record Newly (u ls : List ℕ) (r : Walk) (l : List (Said Saying)) (P : Tale
   pub standing : Standing
   pub known : P tale standing
   pub said : Said Saying
+  pub asked : Apt (said .what) (said .token .bytes)
   pub tells : Tells u r tale said
   pub next : Standing
   pub goes : after (roleOf (said .what)) standing ≡ some next
   pub rest : List (Said Saying)
   pub follows : Follows u ls r (tell said tale) next rest
+  pub apt : AllApt rest
   pub whole : tellAll rest (tell said tale) ≡ taleSaid l
 
 pub role-below : (r : Role) → roleNumber r < 16
@@ -79,21 +84,21 @@ module _ {P : Tale → Standing → Type 0} (u ls ls′ : List ℕ) (w r : Walk)
           absurd (let y : roleNumber (roleOf (x .what)) < 16 = role-below (roleOf (x .what)) in omega arith)
 
   pub newly : (r .role ≡ 16 → ⊥) → Halfway u ls w l P → Newly u ls′ r l P
-  unfolding tellAll
-  newly e h = onto (h .tale) (h .standing) (h .rest) (h .follows) (h .whole) (h .known)
+  unfolding tellAll AllApt
+  newly e h = onto (h .tale) (h .standing) (h .rest) (h .follows) (h .apt) (h .whole) (h .known)
     where
-      onto : (b : Tale) (q : Standing) (k : List (Said Saying)) → Follows u ls w b q k → tellAll k b ≡ taleSaid l → P b q → Newly u ls′ r l P
-      onto b q [] f v p = absurd (e (g .done b q f))
-      onto b q (x ∷ k) f v p =
+      onto : (b : Tale) (q : Standing) (k : List (Said Saying)) → Follows u ls w b q k → AllApt k → tellAll k b ≡ taleSaid l → P b q → Newly u ls′ r l P
+      onto b q [] f y v p = absurd (e (g .done b q f))
+      onto b q (x ∷ k) f y v p =
           let s : Shallow (tell x b .levels) = shallow-told k (tell x b) (rw v (shallow-said u l a)) in
           let m = g .more x k b q f s in
-          record { tale = b; standing = q; known = p; said = x; tells = m .0; next = m .1 .0; goes = m .1 .1; rest = k; follows = m .1 .2; whole = v }
+          record { tale = b; standing = q; known = p; said = x; asked = y .0; tells = m .0; next = m .1 .0; goes = m .1 .1; rest = k; follows = m .1 .2; apt = y .1; whole = v }
 
 -- at the beginning nothing has been told
 pub halfway-start : {P : Tale → Standing → Type 0} (u ls : List ℕ) (w : Walk) → Started w → length ls ≡ 16 → (l : List (Said Saying)) → Accepted u l → P untold declaring → Halfway u ls w l P
 unfolding taleOf
-halfway-start u ls w s n l a p = record { tale = untold; standing = declaring; rest = spoken l; follows = s .follows u ls l n (a .says); whole = refl; known = p }
+halfway-start u ls w s n l a p = record { tale = untold; standing = declaring; rest = spoken l; follows = s .follows u ls l n (a .says); apt = all-apt u l (a .says); whole = refl; known = p }
 
 -- on to the next turn
 pub onwards : {P Q : Tale → Standing → Type 0} {u ls : List ℕ} {r : Walk} {l : List (Said Saying)} (n : Newly u ls r l P) → Q (tell (n .said) (n .tale)) (n .next) → Halfway u ls r l Q
-onwards n q = record { tale = tell (n .said) (n .tale); standing = n .next; rest = n .rest; follows = n .follows; whole = n .whole; known = q }
+onwards n q = record { tale = tell (n .said) (n .tale); standing = n .next; rest = n .rest; follows = n .follows; apt = n .apt; whole = n .whole; known = q }

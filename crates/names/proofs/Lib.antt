@@ -19,3 +19,4 @@ pub mod Judgements
 pub mod Upright
 pub mod OneRow
 pub mod KindLaws
+pub mod NumberLaws
