@@ -8,7 +8,7 @@ use Rattle.plexil.specs.Lists.{Found, at, nowhere}
 use Rattle.grammar.specs.Spelling.{Token}
 use Rattle.grammar.specs.Table.{Said}
 use Rattle.notation.specs.Sayings.{Saying}
-use Rattle.notation.specs.Draft.{Command, Lookup, Variable, Draft}
+use Rattle.notation.specs.Draft.{Lookup, Variable, Draft}
 use Rattle.notation.specs.Hearing.{draftOf}
 use Rattle.notation.specs.Names.{variableOf, lookupOf, commandOf}
 use Rattle.notation.specs.Mapping.{numberOf, kindOfVariable, kindOfLookup, numberOfCommand}
@@ -33,12 +33,6 @@ unfolding kindOfLookup
 lookups-end [] j h = refl
 lookups-end (v ∷ vs) zero h = absurd (omega arith)
 lookups-end (v ∷ vs) (suc j) h = lookups-end vs j (omega arith)
-
-commands-end : (vs : List Command) (j : ℕ) → length vs ≤ j → numberOfCommand vs j ≡ 0
-unfolding numberOfCommand
-commands-end [] j h = refl
-commands-end (v ∷ vs) zero h = absurd (omega arith)
-commands-end (v ∷ vs) (suc j) h = commands-end vs j (omega arith)
 
 module _ (u : List ℕ) (d : Draft) (t : Tables) (k : Known u d t) (r : NameFound) (w : ℕ) where
   -- what the resolution of a name answers, told of the draft
@@ -65,9 +59,11 @@ module _ (u : List ℕ) (d : Draft) (t : Tables) (k : Known u d t) (r : NameFoun
             ∙ ap (kindOfLookup (d .lookups)) e,
       )
 
-  pub means-command : (x : Token) → ((l : List (Said Saying)) → Accepted u l → Ready u (taleSaid l) (t .from) (t .to) (t .owner) (t .told) → r ≡ foundOf (commandOf (draftOf l) x))
-      → StandsAt (t .kind) 0 (t .told .commands) (r .place) w → w ≡ numberOfCommand (d .commands) (numberOf (commandOf d x))
-  means-command x h st =
-      let e = told-of (λ y. commandOf y x) h in
-      st (numberOfCommand (d .commands)) (omega (arith, k .commands, k .fewCommands)) (λ j m. k .commandNumbers j (omega (arith, k .commands))) (λ j m. commands-end (d .commands) j (omega (arith, k .commands)))
-      ∙ ap (numberOfCommand (d .commands)) e
+  module _ (x : Token) (h : (l : List (Said Saying)) → Accepted u l → Ready u (taleSaid l) (t .from) (t .to) (t .owner) (t .told) → r ≡ foundOf (commandOf (draftOf l) x)) where
+    pub means-command : r .place < 256 → w ≡ getD (t .kind) (r .place) 0 → w ≡ numberOfCommand (d .commands) (numberOf (commandOf d x))
+    means-command few e = e ∙ k .commandNumbers (r .place) few ∙ ap (numberOfCommand (d .commands)) (told-of (λ y. commandOf y x) h)
+
+    pub means-later : ((l : List (Said Saying)) → Accepted u l → w ≡ numberOfCommand (draftOf l .commands) (r .place)) → w ≡ numberOfCommand (d .commands) (numberOf (commandOf d x))
+    means-later f =
+        f (k .said) (k .accepted) ∙ ap (λ (y : Draft). numberOfCommand (y .commands) (r .place)) (k .draft)
+        ∙ ap (numberOfCommand (d .commands)) (told-of (λ y. commandOf y x) h)

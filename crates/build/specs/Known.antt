@@ -36,13 +36,11 @@ pub record Known (u : List ℕ) (d : Draft) (t : Tables) : Type 0 where
   pub ready : Ready u (taleSaid said) (t .from) (t .to) (t .owner) (t .told)
   pub variables : t .told .variables ≡ length (d .variables)
   pub lookups : t .told .lookups ≡ length (d .lookups)
-  pub commands : t .told .commands ≡ length (d .commands)
   pub fewVariables : length (d .variables) ≤ 128
   pub fewLookups : length (d .lookups) ≤ 64
-  pub fewCommands : length (d .commands) ≤ 256
   pub variableKinds : (i : ℕ) → i < length (d .variables) → getD (t .kind) (320 + i) 0 ≡ kindOfVariable (d .variables) i
   pub lookupKinds : (i : ℕ) → i < length (d .lookups) → getD (t .kind) (256 + i) 0 ≡ kindOfLookup (d .lookups) i
-  pub commandNumbers : (i : ℕ) → i < length (d .commands) → getD (t .kind) (0 + i) 0 ≡ numberOfCommand (d .commands) i
+  pub commandNumbers : (i : ℕ) → i < 256 → getD (t .kind) i 0 ≡ numberOfCommand (d .commands) i
 
 -- a cursor's token lies in the text
 abbrev pub Lies : List ℕ → Cursor → Type 0

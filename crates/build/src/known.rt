@@ -2,6 +2,7 @@
 use names::NameFound;
 use names::Told;
 use names::child_of;
+use names::command_number;
 use names::command_of;
 use names::lookup_of;
 use names::node_up;
@@ -88,7 +89,7 @@ pub fn lookup<'a>(
     }
 }
 
-// The number of the command that it names.
+// The number of the command that it names: the table has the first 256 of them.
 pub fn command<'a>(
     text: &'a [u8],
     from: &'a [usize; 704],
@@ -109,5 +110,9 @@ pub fn command<'a>(
         return 0;
     }
     let f = command_of(text, from, to, owner, told, &text[a..e]);
-    standing(kind, 0, told.commands, f.place)
+    let i = f.place;
+    if i < 256 {
+        return kind[i];
+    }
+    command_number(text, i)
 }
