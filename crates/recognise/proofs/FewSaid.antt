@@ -5,7 +5,7 @@ use mathlib.Core.Bool.{Bool, true, false, cond}
 use mathlib.Core.List.{List, [], _∷_}
 use native.Mathlib.Omega.{arith}
 use lib.ListN.{length, length-append}
-use Rattle.grammar.specs.Spelling.{Token, Placed, joins, Part, between, slash, star, lost, remark, aside, chunk, feed, given, pending, allEndAt, placedFrom, placed}
+use Rattle.grammar.specs.Spelling.{Token, joins, Part, between, slash, star, lost, remark, aside, chunk, feed, given, pending, allEndAt, placedFrom, placed}
 use Rattle.grammar.specs.Table.{Said}
 use Rattle.notation.specs.Sayings.{Saying}
 use Rattle.notation.specs.Spoken.{isSilent, spoken}

@@ -1,6 +1,6 @@
 -- `names::numbers::command_number` meets its contract. The invariant: of the commands that have been told the number of the command i is as it says.
 use Prim.Native.Nat.{_≤_, _-_}
-use mathlib.Core.Path.{_≡_, refl, sym, _∙_}
+use mathlib.Core.Path.{refl, sym, _∙_}
 use mathlib.Core.List.{List}
 use native.Mathlib.Omega.{arith}
 use borrow.Author.Needs.{needs}
