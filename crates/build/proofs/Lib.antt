@@ -12,3 +12,6 @@ pub mod LiteralLaws
 pub mod KnownLaws
 pub mod LeafLaws
 pub mod PathLaws
+pub mod Untouched
+pub mod RecordLaws
+pub mod DeclarationLaws

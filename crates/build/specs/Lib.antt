@@ -7,3 +7,4 @@ pub mod Literals
 pub mod Known
 pub mod Named
 pub mod Questions
+pub mod Declarations

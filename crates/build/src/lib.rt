@@ -1,4 +1,5 @@
-// A text's expressions read into the entries of its image, by functions for boolean and numeric expression that call each other; and the writers of an image's records.
+// A text read into the records of its image: the declarations before its node; expressions, by functions for boolean and numeric expression that call each other; and the writers of the records.
+mod declarations;
 mod entries;
 mod expressions;
 mod known;
