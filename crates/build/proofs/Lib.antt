@@ -15,3 +15,9 @@ pub mod PathLaws
 pub mod Untouched
 pub mod RecordLaws
 pub mod DeclarationLaws
+pub mod HoldLaws
+pub mod LayLaws
+pub mod Growing
+pub mod AttributeViews
+pub mod AttributeLaws
+pub mod NodeLaws

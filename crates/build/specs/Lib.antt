@@ -8,3 +8,6 @@ pub mod Known
 pub mod Named
 pub mod Questions
 pub mod Declarations
+pub mod Laying
+pub mod Telling
+pub mod Building

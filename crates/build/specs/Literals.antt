@@ -155,9 +155,9 @@ kindOf ends = 0
 abbrev pub OfLeaf : (Saying → ℕ) → ℕ → ℕ → Type 0
 OfLeaf f says r = (x : Saying) → Leaf x → says ≡ codeOf x → says < 42 → r ≡ f x
 
--- the bits of the constant that the cursor has heard
-abbrev pub WordAt : List ℕ → Cursor → ℕ → Type 0
-WordAt u c r = (x : Saying) → Leaf x → c .says ≡ codeOf x → c .says < 42 → c .from ≤ c .to → c .to ≤ length u → Apt x (piece u (c .from) (c .to)) → r ≡ wordOf x (piece u (c .from) (c .to))
+-- the bits of the constant whose saying has that number, and whose token stands from a to e
+abbrev pub WordAt : List ℕ → ℕ → ℕ → ℕ → ℕ → Type 0
+WordAt u says a e r = (x : Saying) → Leaf x → says ≡ codeOf x → says < 42 → a ≤ e → e ≤ length u → Apt x (piece u a e) → r ≡ wordOf x (piece u a e)
 
 -- the leaf's entry is added
 abbrev pub Adds : List ℕ → ℕ → ℕ → Cursor → List ℕ → ℕ → List ℕ → Type 0

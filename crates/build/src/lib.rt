@@ -1,18 +1,16 @@
-// A text read into the records of its image: the declarations before its node; expressions, by functions for boolean and numeric expression that call each other; and the writers of the records.
+// The image of a text: its declarations, its nodes and lists, and its expressions, each read by functions of that name into the image's records.
+mod attributes;
+mod building;
 mod declarations;
 mod entries;
 mod expressions;
 mod known;
+mod laying;
 mod leaves;
 mod literals;
+mod nodes;
 mod paths;
 mod steps;
 mod write;
 
-pub use expressions::boolean;
-pub use expressions::numeric;
-pub use steps::Progress;
-pub use write::put_header;
-pub use write::put_lookup;
-pub use write::put_node;
-pub use write::put_variable;
+pub use building::build;

@@ -28,13 +28,10 @@ fn known(says: u8) -> usize
     if says < 39 { 1 } else { 0 }
 }
 
-// The bits of the constant that the cursor has heard.
-fn word(text: &[u8], at: Cursor) -> u64
-    ensures { λ r. ⌜ WordAt (now (text .entry)) at r ⌝ }
+// The bits of a constant, by the number of what is said and where its token stands.
+pub fn word(text: &[u8], says: u8, from: usize, to: usize) -> u64
+    ensures { λ r. ⌜ WordAt (now (text .entry)) says from to r ⌝ }
 {
-    let says = at.says;
-    let from = at.from;
-    let to = at.to;
     if says > 38 {
         return 0;
     }
@@ -71,6 +68,6 @@ pub fn literal(text: &[u8], image: &mut [u8; 41108], base: usize, at: Cursor, n:
         kind(at.says),
         0,
         known(at.says),
-        word(text, at),
+        word(text, at.says, at.from, at.to),
     )
 }

@@ -18,7 +18,7 @@ fn pair(image: &mut [u8; 41108], at: usize, x: u8, y: u8)
 }
 
 // The k lowest bytes of n, least first.
-fn little(image: &mut [u8; 41108], at: usize, k: usize, n: u64)
+pub fn little(image: &mut [u8; 41108], at: usize, k: usize, n: u64)
     requires { ⌜ at + k ≤ 41108 ⌝ }
     ensures { λ _. ⌜ (length (now (image .entry)) ≡ 41108 → now (image .exit) ≡ put (now (image .entry)) at (bytes k n)) ⌝ }
 {
