@@ -51,9 +51,9 @@ variable-length : (k b o w : ℕ) → length (Assemble.variable k b o w) ≡ 16
 unfolding Assemble.opened
 variable-length k b o w = refl
 
-header-length : (n e v l : ℕ) → length (header n e v l) ≡ 20
+pub head-length : (d : Draft) → length (headOf d) ≡ 20
 unfolding header
-header-length n e v l = words-size _
+head-length d = words-size _
 
 -- ---- the last one of several
 none-last : (f : Variable → Variable) (l : List Variable) → length l ≡ 0 → atLast f l ≡ l
@@ -69,9 +69,6 @@ last-one (v ∷ (w ∷ l)) h = let r = last-one (w ∷ l) (omega arith) in (v �
 
 -- ---- the sections apart
 module _ (whole : Draft) (ns : List Node) (es : List Entry) (vs : List Variable) (image : List ℕ) (f : Limited whole) (a : Laid whole ns es vs image) where
-  head-length : length (headOf whole) ≡ 20
-  head-length = header-length (length (whole .nodes)) (length (whole .entries)) (length (whole .variables)) (length (whole .lookups))
-
   -- a node's record
   pub lay-node : (m : Node) (r after : List ℕ) → length r ≡ 24 → length ns < length (whole .nodes) → nodeBytes whole (length ns) m (m .body) ≡ r → after ≡ put image (20 + 24 * length ns) r
       → Laid whole (ns ▸ m) es vs after
@@ -91,7 +88,7 @@ module _ (whole : Draft) (ns : List Node) (es : List Entry) (vs : List Variable)
         fewNodes = omega (arith, more-length ns m);
         fewEntries = a .fewEntries;
         fewVariables = a .fewVariables;
-        head = stays-before image after place r q low 0 (headOf whole) (omega (arith, head-length)) (a .head);
+        head = stays-before image after place r q low 0 (headOf whole) (omega (arith, head-length whole)) (a .head);
         nodes = subst (λ x. Holds after 20 x) (sym j)
             (holds-more after 20 (join (allNodes whole 0 ns)) r (stays-before image after place r q low 20 (join (allNodes whole 0 ns)) (omega (arith, a .sized)) (a .nodes)) (subst (λ n. Holds after n r) p (stands image after place r q low)));
         entries = beyond (entriesAt whole) (entriesBytes whole es) (omega arith) (a .entries);
@@ -121,7 +118,7 @@ module _ (whole : Draft) (ns : List Node) (es : List Entry) (vs : List Variable)
         fewNodes = a .fewNodes;
         fewEntries = h;
         fewVariables = a .fewVariables;
-        head = before 0 (headOf whole) (omega (arith, head-length)) (a .head);
+        head = before 0 (headOf whole) (omega (arith, head-length whole)) (a .head);
         nodes = before 20 (join (allNodes whole 0 ns)) (omega (arith, a .sized, a .fewNodes)) (a .nodes);
         entries = stands image after (entriesAt whole) r q low;
         variables = beyond (variablesAt whole) (join (allVariables vs)) (omega arith) (a .variables);
@@ -139,7 +136,7 @@ module _ (whole : Draft) (ns : List Node) (es : List Entry) (vs : List Variable)
         fewNodes = a .fewNodes;
         fewEntries = a .fewEntries;
         fewVariables = h;
-        head = before 0 (headOf whole) (omega (arith, head-length)) (a .head);
+        head = before 0 (headOf whole) (omega (arith, head-length whole)) (a .head);
         nodes = before 20 (join (allNodes whole 0 ns)) (omega (arith, a .sized, a .fewNodes)) (a .nodes);
         entries = before (entriesAt whole) (entriesBytes whole es) (omega (arith, entries-length whole es, a .fewEntries)) (a .entries);
         variables = o;

@@ -21,3 +21,4 @@ pub mod Growing
 pub mod AttributeViews
 pub mod AttributeLaws
 pub mod NodeLaws
+pub mod BuildLaws

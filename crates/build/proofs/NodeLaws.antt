@@ -167,6 +167,35 @@ module _ (u : List ℕ) (whole : Draft) (before : List Node) (parent size : ℕ)
         subst (Keeps before) (sym q) (keeps-more before cur),
       )
 
+-- ---- a node begins
+-- the node w below the list that is open
+pub opens-so : (u : List ℕ) (whole d : Draft) (parent size : ℕ) (c : Course) (image : List ℕ) (w : Said Saying) (l m : Sayings) → Opening (w .what) → Attributes l m → Hears u (c .at) l → length l ≤ size → c .nodes ≡ length (d .nodes)
+    → d .above ≡ parent → Between whole (w ∷ l) d (d .nodes) (c .entries) (c .variables) image → Opened u whole (d .nodes) parent size m c image
+unfolding hear hearAll Hearing.mentioning Hearing.nextNode
+opens-so u whole d parent size c image w l m o x hears short counted above b = by (w .what) refl o
+  where
+    begun : (q : Draft) (name : List ℕ) → q .nodes ≡ d .nodes ▸ record { name = name; place = w .token .place; parent = d .above; level = suc (d .depth); priority = 0; given = noConditions; body = list }
+        → q .above ≡ parent → Between whole l q (d .nodes) (c .entries) (c .variables) image → Opened u whole (d .nodes) parent size m c image
+    begun q name e f t =
+        record {
+          later = l;
+          draft = q;
+          hears = hears;
+          phrase = x;
+          short = short;
+          counted = counted;
+          current = record { current = record { name = name; place = w .token .place; parent = d .above; level = suc (d .depth); priority = 0; given = noConditions; body = list }; nodes = e; above = f; parent = above; priority = refl; given = refl; seven = refl; plain = refl };
+          between = t;
+        }
+
+    by : (y : Saying) → w .what ≡ y → Opening y → Opened u whole (d .nodes) parent size m c image
+    by _ e named =
+        begun (hear names (w .token) d) (w .token .bytes) refl above
+        (record { leads = ap (λ z. hearAll l (hear z (w .token) d)) (sym e) ∙ b .leads; none = b .none; free = b .free; laid = b .laid; entries = b .entries; variables = b .variables })
+    by _ e unnamed =
+        begun (hear begins (w .token) d) [] refl above
+        (record { leads = ap (λ z. hearAll l (hear z (w .token) d)) (sym e) ∙ b .leads; none = b .none; free = b .free; laid = b .laid; entries = b .entries; variables = b .variables })
+
 -- ---- the nodes of a list
 -- what has been read after the nodes ms has been read after the nodes before them
 pub done-in : {u : List ℕ} {whole : Draft} {ns ms : List Node} {parent size sizes : ℕ} {k : Sayings} {c : Course} {image : List ℕ} → Keeps ns ms → size ≤ sizes → Done u whole ms parent size k c image → Done u whole ns parent sizes k c image
@@ -205,41 +234,16 @@ module _ (u : List ℕ) (whole d : Draft) (parent node size : ℕ) (k : Sayings)
         };
       }
 
-  opened-so : (w : Said Saying) (l m : Sayings) → Opening (w .what) → Attributes l m → Hears u r l → hearAll (w ∷ l) d ≡ whole → suc (length l) ≤ size
-      → Opened u whole (d .nodes) node (size - 1) m (record { at = r; nodes = c .nodes; entries = c .entries; variables = c .variables }) image
-  unfolding hear hearAll Hearing.mentioning Hearing.nextNode
-  opened-so w l m o x hears leads short = by (w .what) refl o
-    where
-      by : (y : Saying) → w .what ≡ y → Opening y → Opened u whole (d .nodes) node (size - 1) m (record { at = r; nodes = c .nodes; entries = c .entries; variables = c .variables }) image
-      by _ e named =
-          record {
-            later = l;
-            draft = hear names (w .token) d;
-            hears = hears;
-            phrase = x;
-            short = omega arith;
-            counted = t .counted;
-            current = record { current = record { name = w .token .bytes; place = w .token .place; parent = d .above; level = suc (d .depth); priority = 0; given = noConditions; body = list }; nodes = refl; above = t .above; parent = t .above; priority = refl; given = refl; seven = refl; plain = refl };
-            between = record { leads = ap (λ z. hearAll l (hear z (w .token) d)) (sym e) ∙ leads; none = t .between .none; free = t .between .free; laid = t .between .laid; entries = t .between .entries; variables = t .between .variables };
-          }
-      by _ e unnamed =
-          record {
-            later = l;
-            draft = hear begins (w .token) d;
-            hears = hears;
-            phrase = x;
-            short = omega arith;
-            counted = t .counted;
-            current = record { current = record { name = []; place = w .token .place; parent = d .above; level = suc (d .depth); priority = 0; given = noConditions; body = list }; nodes = refl; above = t .above; parent = t .above; priority = refl; given = refl; seven = refl; plain = refl };
-            between = record { leads = ap (λ z. hearAll l (hear z (w .token) d)) (sym e) ∙ leads; none = t .between .none; free = t .between .free; laid = t .between .laid; entries = t .between .entries; variables = t .between .variables };
-          }
-
   -- a node begins, and the others follow it
   pub node-begins : (r .says ≡ 9 → ⊥) → (m : Sayings) × Opened u whole (d .nodes) node (size - 1) m (record { at = r; nodes = c .nodes; entries = c .entries; variables = c .variables }) image × Nodes m k
   node-begins f =
       let n = heard-next in
-      let y = is-node (n .2) (λ z. f (n .5 ∙ z)) in
-      (y .1, opened-so (n .0) (n .1) (y .1) (y .0) (y .2) (n .4) (n .6) (n .7), y .3)
+      let y = is-node (n .2) (λ z. f (n .5 ∙ z)) in (
+        y .1,
+        opens-so u whole d node (size - 1) (record { at = r; nodes = c .nodes; entries = c .entries; variables = c .variables }) image (n .0) (n .1) (y .1) (y .0) (y .2) (n .4) (omega (arith, n .7)) (t .counted) (t .above)
+            (record { leads = n .6; none = t .between .none; free = t .between .free; laid = t .between .laid; entries = t .between .entries; variables = t .between .variables }),
+        y .3,
+      )
 
 -- the list goes on after a node
 pub list-goes : {u : List ℕ} {whole d : Draft} {parent node size : ℕ} {k m : Sayings} {c r : Course} {image after : List ℕ} → Listing u whole d node parent size k c image → Nodes m k → (x : Done u whole (d .nodes) node (size - 1) m r after)

@@ -1,3 +1,4 @@
+-- `build::attributes::attribute` meets its contract.
 use mathlib.Core.Path.{refl}
 use native.Mathlib.Omega.{arith}
 use Rattle.build.proofs.AttributeLaws.{told-condition, told-rank, told-variable, told-initial}

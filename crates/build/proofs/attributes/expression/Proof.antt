@@ -1,3 +1,4 @@
+-- `build::attributes::expression` meets its contract.
 use Rattle.build.proofs.AttributeLaws.{expressed}
 use borrow.Author.Needs.{needs}
 use Rattle.build.proofs.attributes.expression.Statement.{statement}

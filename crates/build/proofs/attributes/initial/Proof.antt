@@ -1,3 +1,4 @@
+-- `build::attributes::initial` meets its contract.
 use mathlib.Core.Path.{refl}
 use native.Mathlib.Omega.{arith}
 use Rattle.build.proofs.AttributeViews.{initial-code}

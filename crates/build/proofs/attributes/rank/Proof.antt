@@ -1,3 +1,4 @@
+-- `build::attributes::rank` meets its contract.
 use Rattle.recognise.specs.Hears.{piece}
 use Rattle.build.proofs.AttributeLaws.{ranked}
 use borrow.Author.Needs.{needs}

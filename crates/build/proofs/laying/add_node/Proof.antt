@@ -1,3 +1,4 @@
+-- `build::laying::add_node` meets its contract.
 use native.Mathlib.Omega.{arith}
 use Rattle.build.proofs.LayLaws.{lay-one-node, more-length}
 use borrow.Author.Needs.{needs}

@@ -1,3 +1,4 @@
+-- `build::laying::add_variable` meets its contract.
 use native.Mathlib.Omega.{arith}
 use Rattle.build.proofs.LayLaws.{lay-unknown, more-length}
 use borrow.Author.Needs.{needs}

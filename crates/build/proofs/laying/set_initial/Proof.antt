@@ -1,3 +1,4 @@
+-- `build::laying::set_initial` meets its contract.
 use native.Mathlib.Omega.{arith}
 use Rattle.build.proofs.LayLaws.{lay-initial, lay-nothing}
 use borrow.Author.Needs.{needs}

@@ -1,3 +1,4 @@
+-- `build::nodes::list` and `build::nodes::node`, which call each other, meet their contracts. The invariant of the list: what has been read of it has its records, and the others follow.
 use Prim.Native.Nat.{ℕ, _<_, _≤_, _-_}
 use mathlib.Core.Path.{refl}
 use native.Mathlib.Omega.{arith}

@@ -1,3 +1,4 @@
+-- `build::nodes::task` meets its contract.
 use native.Mathlib.Omega.{arith}
 use Rattle.build.proofs.NodeLaws.{done-command, done-assignment}
 use borrow.Author.Needs.{needs}
