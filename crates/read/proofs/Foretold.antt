@@ -7,6 +7,7 @@ use mathlib.Core.Option.{Option, none, some}
 use native.Mathlib.Omega.{arith}
 use lib.ListN.{length}
 use lib.Dec.{ltb}
+use borrow.Author.Tests.{ltb-false}
 use Rattle.plexil.specs.Lists.{if_then_else_, Found, at, nowhere}
 use Rattle.grammar.specs.Table.{Said}
 use Rattle.notation.specs.Sayings.{Saying}
@@ -31,22 +32,22 @@ survey-foretells u old = by (planSays u) refl
 
     roomed : (l : List (Said Saying)) → planSays u ≡ some l → tooDeep (draftOf l .nodes) ≡ nowhere → badName (draftOf l) ≡ nowhere → withinCounts (draftOf l) ≡ true
         → (t : Bool) → ltb (length old) (imageLength (draftOf l)) ≡ t → Foretells u old (surveyOf u (length old))
-    roomed l q t n w true e = rw (q, t, n, w, e) (record { refuses = λ h. from-names l q t nowhere n ∙ rw (w, e) refl; passes = λ h. absurd (omega arith) })
+    roomed l q t n w true e = rw (q, t, n, w, e) (record { refuses = λ h. from-names l q t nowhere n ∙ rw (w, e) refl; nothing = λ h. refl; passes = λ h. absurd (omega arith) })
     roomed l q t n w false e =
-        rw (q, t, n, w, e) (record { refuses = λ h. absurd (h refl); passes = λ h. (l, q, refl, from-names l q t nowhere n ∙ rw (w, e) refl) })
+        rw (q, t, n, w, e) (record { refuses = λ h. absurd (h refl); nothing = λ h. absurd (h refl); passes = λ h. (l, record { accepted = record { says = q; levels = t }; counted = w; long = refl; room = ltb-false (length old) (imageLength (draftOf l)) e; reply = from-names l q t nowhere n ∙ rw (w, e) refl }) })
 
     counted : (l : List (Said Saying)) → planSays u ≡ some l → tooDeep (draftOf l .nodes) ≡ nowhere → badName (draftOf l) ≡ nowhere → (t : Bool) → withinCounts (draftOf l) ≡ t → Foretells u old (surveyOf u (length old))
     counted l q t n true e = roomed l q t n e (ltb (length old) (imageLength (draftOf l))) refl
-    counted l q t n false e = rw (q, t, n, e) (record { refuses = λ h. from-names l q t nowhere n ∙ rw e refl; passes = λ h. absurd (omega arith) })
+    counted l q t n false e = rw (q, t, n, e) (record { refuses = λ h. from-names l q t nowhere n ∙ rw e refl; nothing = λ h. refl; passes = λ h. absurd (omega arith) })
 
     names : (l : List (Said Saying)) → planSays u ≡ some l → tooDeep (draftOf l .nodes) ≡ nowhere → (b : Found) → badName (draftOf l) ≡ b → Foretells u old (surveyOf u (length old))
-    names l q t (at k) e = rw (q, t, e) (record { refuses = λ h. from-names l q t (at k) e; passes = λ h. absurd (omega arith) })
+    names l q t (at k) e = rw (q, t, e) (record { refuses = λ h. from-names l q t (at k) e; nothing = λ h. refl; passes = λ h. absurd (omega arith) })
     names l q t nowhere e = counted l q t e (withinCounts (draftOf l)) refl
 
     levels : (l : List (Said Saying)) → planSays u ≡ some l → (b : Found) → tooDeep (draftOf l .nodes) ≡ b → Foretells u old (surveyOf u (length old))
-    levels l q (at k) e = rw (q, e) (record { refuses = λ h. from-levels l q (at k) e; passes = λ h. absurd (omega arith) })
+    levels l q (at k) e = rw (q, e) (record { refuses = λ h. from-levels l q (at k) e; nothing = λ h. refl; passes = λ h. absurd (omega arith) })
     levels l q nowhere e = names l q e (badName (draftOf l)) refl
 
     by : (o : Option (List (Said Saying))) → planSays u ≡ o → Foretells u old (surveyOf u (length old))
-    by none q = rw q (record { refuses = λ h. ap (λ o. heard o u old) q; passes = λ h. absurd (omega arith) })
+    by none q = rw q (record { refuses = λ h. ap (λ o. heard o u old) q; nothing = λ h. refl; passes = λ h. absurd (omega arith) })
     by (some l) q = levels l q (tooDeep (draftOf l .nodes)) refl

@@ -18,7 +18,7 @@ abbrev pub Leaves : ReadReply → List ℕ → Reading → Type 0
 Leaves r image w = (r ≡ replyOf w) × (image ≡ w .image)
 
 -- the whole reply is a refusal
-refuses : (r : ReadReply) (n k : ℕ) (old : List ℕ) (w : Reading) → r ≡ refusedReply n k → w ≡ refused n k old → Leaves r old w
+pub refuses : (r : ReadReply) (n k : ℕ) (old : List ℕ) (w : Reading) → r ≡ refusedReply n k → w ≡ refused n k old → Leaves r old w
 unfolding replyOf refused
 refuses r n k old w e h = rw h (e, refl)
 

@@ -2,3 +2,4 @@ mod Copying
 mod Handed
 mod Stages
 pub mod Foretold
+mod Made

@@ -4,6 +4,7 @@ use mathlib.Core.Path.{_≡_, refl, sym, ap, _∙_}
 use mathlib.Core.Bool.{Bool, true, false, not, true≢false, false≢true}
 use mathlib.Core.List.{List}
 use mathlib.Core.Option.{Option, none, some}
+use native.Mathlib.Omega.{arith}
 use borrow.Author.Tests.{lt-ltb, le-ltb, not-true, not-false}
 use Rattle.plexil.specs.Lists.{if_then_else_, Found, at, nowhere}
 use Rattle.grammar.specs.Table.{Said}
@@ -27,6 +28,9 @@ limits-kept s o h e = not-false (fits s) (sym h ∙ e)
 
 pub limits-passed : (s : Recognised) (o : Bool) → o ≡ not (fits s) → o ≡ true → fits s ≡ false
 limits-passed s o h e = not-true (fits s) (sym h ∙ e)
+
+pub refused-not : (r : ReadReply) (n k : ℕ) → r ≡ refusedReply n k → 0 < n → r .number ≡ 0 → ⊥
+refused-not r n k e h z = omega (arith, ap (λ (x : ReadReply). x .number) e)
 
 -- ---- 42, 3 and 43
 module _ (d : Draft) (room : ℕ) (s : Recognised) (seen : s ≡ acceptedAs d) (f : NameFound) (found : f ≡ foundOf (badName d)) (r : ReadReply) where
@@ -65,6 +69,11 @@ module _ (d : Draft) (room : ℕ) (s : Recognised) (seen : s ≡ acceptedAs d) (
   pub all-passed : f .found ≡ false → fits s ≡ true → (n : ℕ) → n ≡ lengthOf s → n ≤ room → r ≡ madeReply n → r ≡ namedBy (badName d) d room
   unfolding namedBy measuredBy if_then_else_
   all-passed h g n en l e = rw (no-bad-name h, sym fits-is ∙ g, le-ltb room (imageLength d) (rw (en ∙ length-is) at l)) (e ∙ ap madeReply (en ∙ length-is))
+
+-- what the look over the text found, where it is accepted
+pub seen-as : (u : List ℕ) (s : Recognised) → s ≡ recognisedOf u → (l : List (Said Saying)) → Accepted u l → s ≡ acceptedAs (draftOf l)
+unfolding recognisedOf recognisedBy
+seen-as u s seen l a = seen ∙ ap (λ x. recognisedBy x u) (a .says)
 
 -- ---- 40 and 41
 module _ (u : List ℕ) (room : ℕ) (s : Recognised) (seen : s ≡ recognisedOf u) (r : ReadReply) where

@@ -1,7 +1,8 @@
 -- The stages of a reading before there is an image: what they answer, and what the whole reply is after them.
-use Prim.Native.Nat.{ℕ}
+use Prim.Native.Nat.{ℕ, _≤_}
 use mathlib.Core.Path.{_≡_}
 use mathlib.Core.Logic.{_≢_}
+use mathlib.Core.Bool.{true}
 use mathlib.Core.List.{List}
 use mathlib.Core.Option.{Option, none, some}
 use lib.ListN.{length}
@@ -15,7 +16,11 @@ use Rattle.notation.specs.Hearing.{draftOf}
 use Rattle.notation.specs.Names.{tooDeep, badName}
 use Rattle.notation.specs.Mapping.{imageOf, withinCounts, imageLength}
 use Rattle.notation.specs.Reading.{planSays, textReach, refused, judged, readReply}
+use Rattle.recognise.specs.Recognised.{acceptedAs}
+use Rattle.names.specs.Answers.{Accepted, taleSaid}
+use Rattle.names.specs.Tables.{Filled}
 use Rattle.read.specs.declared.reply.ReadReply.{ReadReply}
+use Rattle.read.specs.declared.surveying.Overview.{Overview}
 use Rattle.read.specs.Reply.{refusedReply, madeReply}
 
 -- 3 Count, and 43 ImageRoom
@@ -42,14 +47,27 @@ heardBy (some l) u room = levelledBy (tooDeep (draftOf l .nodes)) (draftOf l) ro
 unfoldable pub surveyOf : List ℕ → ℕ → ReadReply
 surveyOf u room = heardBy (planSays u) u room
 
--- a refusal of the survey is the whole reply; else the reply is the check's, of the mapping's image, which is as long as the survey says
+-- the text says l, within the levels and the counts; its image fits and is as long as the survey says, and the reply is the check's
+pub record Passes (u old : List ℕ) (made : ℕ) (l : List (Said Saying)) : Type 0 where
+  pub accepted : Accepted u l
+  pub counted : withinCounts (draftOf l) ≡ true
+  pub long : made ≡ imageLength (draftOf l)
+  pub room : imageLength (draftOf l) ≤ length old
+  pub reply : readReply u old ≡ judged (verdict (imageOf (draftOf l))) (imageOf (draftOf l)) old
+
+-- a refusal of the survey is the whole reply
 pub record Foretells (u old : List ℕ) (r : ReadReply) : Type 0 where
   pub refuses : r .number ≢ 0 → readReply u old ≡ refused (r .number) (r .place) old
-  pub passes : r .number ≡ 0
-      → (l : List (Said Saying)) × (planSays u ≡ some l) × (r .made ≡ imageLength (draftOf l)) × (readReply u old ≡ judged (verdict (imageOf (draftOf l))) (imageOf (draftOf l)) old)
+  pub nothing : r .number ≢ 0 → r .made ≡ 0
+  pub passes : r .number ≡ 0 → (l : List (Said Saying)) × Passes u old (r .made) l
 
 abbrev pub SurveyForetells : Type 0
 SurveyForetells = (u old : List ℕ) → Foretells u old (surveyOf u (length old))
+
+-- what a survey has found: the reply so far; and for a text that passes its counts and the tables of its declarations
+pub record Surveyed (u : List ℕ) (room : ℕ) (fs ts os : List ℕ) (s : Overview) : Type 0 where
+  pub reply : s .reply ≡ surveyOf u room
+  pub found : s .reply .number ≡ 0 → (l : List (Said Saying)) → Accepted u l → (s .seen ≡ acceptedAs (draftOf l)) × Filled u (taleSaid l) fs ts os (s .told)
 
 -- opens every definition of this file
 unfoldable pub opened : Unit {0}

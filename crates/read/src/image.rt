@@ -25,7 +25,7 @@ fn copy(from: &[u8], n: usize, image: &mut [u8])
 }
 
 // The first n bytes of the scratch array are the image.
-pub fn delivered(scratch: &[u8], n: usize, image: &mut [u8]) -> ReadReply
+pub(crate) fn delivered(scratch: &[u8], n: usize, image: &mut [u8]) -> ReadReply
     requires { ⌜ n ≤ length (now scratch) ⌝ }
     requires { ⌜ n ≤ length (now image) ⌝ }
     ensures { λ r. ⌜ (r ≡ replyOf (judged (verdict (take n (now (scratch .entry)))) (take n (now (scratch .entry))) (now (image .entry))))
