@@ -1,7 +1,8 @@
 //! The library beside the plain executive, in one run: ns for each report, each micro step, the check and an
-//! expression entry; then the stack that the library was seen to take.
+//! expression entry, and each text read beside the plain reader; then the stack that the libraries were seen to take.
 
 mod measure;
+mod reading;
 mod stack;
 mod sum;
 mod tower;
@@ -9,6 +10,7 @@ mod unfolding;
 
 use measure::Measure;
 use plain::Plain;
+use samblokur_sys::text::Reads;
 use samblokur_sys::{Executive, Library};
 use std::error::Error;
 use sum::Sum;
@@ -27,6 +29,7 @@ fn main() -> Result<(), Box<dyn Error>> {
         [] => table(),
         [name] if name == STACK => stack_line(),
         [name, levels, what] if name == stack::WITHIN => stack::within(levels.parse()?, what),
+        [name, bytes] if name == reading::WITHIN => reading::within(bytes.parse()?),
         _ => Err(format!("usage: bench [{STACK}]").into()),
     }
 }
@@ -47,6 +50,16 @@ fn table() -> Result<(), Box<dyn Error>> {
         || Measure::of(|| unfolding.check::<Plain>()),
     );
     entry_row(&Sum::new()?);
+    for kilobytes in [1, 20, 200] {
+        let text = texts::sized(kilobytes * 1000);
+        row(
+            kilobytes,
+            "text read (KB instead of nodes)",
+            || read_text(&texts::SUBJECT, &text),
+            || read_text(&texts::MODEL, &text),
+        );
+    }
+    println!("stack of the deepest reading: at most {} KB", reading::least()? / 1024);
     stack_line()
 }
 
@@ -95,6 +108,14 @@ fn step<E: Executive>(tower: &Tower) -> Measure {
 
 fn check<E: Executive>(tower: &Tower) -> Measure {
     Measure::of(|| (0..10).map(|_| tower.check::<E>()).sum())
+}
+
+fn read_text(reader: &dyn Reads, text: &[u8]) -> Measure {
+    let mut image = vec![0; 65536];
+    Measure::of(|| {
+        assert_eq!(reader.read(text, &mut image).number, 0, "a bench text is refused");
+        1
+    })
 }
 
 fn evaluation<E: Executive>(sum: &Sum, phase: u32) -> Measure {

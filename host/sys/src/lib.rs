@@ -1,8 +1,8 @@
 //! The C interface of include/samblokur.h as Rust sees it: its four records, its four calls and the
 //! proved library behind them.
 //!
-//! This is the only module of the workspace that says `unsafe`, and the only one that moves when the header
-//! does. Everything else speaks of an [`Executive`].
+//! This is the only crate of the workspace that says `unsafe`, and the only one that moves when the headers
+//! do. Everything else speaks of an [`Executive`].
 
 pub mod text;
 

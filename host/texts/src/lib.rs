@@ -19,13 +19,12 @@ mod tally;
 mod tour;
 
 pub use pair::Difference;
-pub use sized::sized;
+pub use sized::{deepest, sized};
 pub use tally::Tally;
 pub use tour::{accepted, tour};
 
-/// The reader under test. The place is the proved reader's, which no library has yet: until then a wrong answer is told
-/// by the images that the generator knows and by the known answers, and not by the other reader.
-pub const SUBJECT: reader::PlainReader = reader::PlainReader;
+/// The reader under test: the proved one.
+pub const SUBJECT: samblokur_sys::text::LinkedReader = samblokur_sys::text::LinkedReader;
 
 /// The reader that it is held against.
 pub const MODEL: reader::PlainReader = reader::PlainReader;

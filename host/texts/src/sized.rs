@@ -27,3 +27,18 @@ pub fn sized(bytes: usize) -> Vec<u8> {
     text.push_str("    }\n}\n");
     text.into_bytes()
 }
+
+/// The texts that ask most of a reader's stack: 2,048 entries, all operators pending; NOT upon NOT; a million `(`.
+pub fn deepest() -> Vec<Vec<u8>> {
+    let within =
+        |expression: String| format!("{{ PreCondition: {expression}; NodeList: {{ }} }}").into_bytes();
+    let pending = 1023;
+    vec![
+        within(format!("{}1{}", "1 + (".repeat(pending), ")".repeat(pending))),
+        within(format!("{}true", "NOT ".repeat(2047))),
+        within(format!("{}true{}", "NOT (".repeat(2047), ")".repeat(2047))),
+        within(format!("{}true{}", "(".repeat(1_000_000), ")".repeat(1_000_000))),
+        within("(".repeat(1_000_000)),
+        "{NodeList:{".repeat(100_000).into_bytes(),
+    ]
+}
