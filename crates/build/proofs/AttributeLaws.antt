@@ -26,12 +26,12 @@ use Rattle.build.specs.Flow.{codeOf, ofKind}
 use Rattle.build.specs.Hearsay.{Hears, Heard, Apt}
 use Rattle.build.specs.Known.{Tables}
 use Rattle.build.specs.Standing.{Scene, Fair, Stands, within, entriesBytes}
-use Rattle.build.specs.Steps.{Stepped, Due, Past, Climbs}
+use Rattle.build.specs.Steps.{Stepped, Due, Past}
+use Rattle.build.specs.Pendings.{ReadsBy}
 use Rattle.build.specs.Literals.{wordOf, WordAt}
 use Rattle.build.specs.Laying.{Laid, entriesAt, Site, Between, Current}
-use Rattle.build.specs.Telling.{LaysVariable, LaysInitial, Expresses, Ranks, Begins, Telling, Opened}
+use Rattle.build.specs.Telling.{LaysVariable, LaysInitial, ExpressesBy, Ranks, Begins, Telling, Opened}
 use Rattle.build.proofs.Phrased.{expression-due}
-use Rattle.build.proofs.Ending.{still-nothing}
 use Rattle.build.proofs.EntryLaws.{entries-length}
 use Rattle.build.proofs.Growth.{grows}
 use Rattle.build.proofs.Growing.{last-length, more-all}
@@ -49,9 +49,9 @@ ends-so : (w : Said Saying) (l : Sayings) (d : Draft) (es : List Entry) (ms : Li
 unfolding hearAll hear Hearing.settled Hearing.settleName Hearing.endOperators Hearing.ending Hearing.waiting
 ends-so w l d es ms e = ap (λ x. hearAll l (hear x (w .token) (within d es ms []))) e
 
-pub expressed : (u : List ℕ) (t : Tables) (node base : ℕ) (c r : Cursor) (count many : ℕ) (image after : List ℕ) → Climbs u t node base 1 (length u) c count image r many after → Expresses u t node base c count image r many after
+pub expressed : (u : List ℕ) (t : Tables) (node base : ℕ) (c r : Cursor) (count many : ℕ) (image after : List ℕ) {A B : Type 0} → ReadsBy A B u t node base (length u) c count image r many after → ExpressesBy A B u t node base c count image r many after
 unfolding onNode
-expressed u t node base c r count many image after climbs whole d ns l k vbase v site here′ small x short hears b =
+expressed u t node base c r count many image after reads whole d ns l k vbase v room site here′ small x short hears b =
     let a = b .laid in
     let s : Scene = record { whole = whole; start = d; rest = k; under = image } in
     let low : base ≤ 6164 = omega (arith, site .entries, site .limited .nodes) in
@@ -61,7 +61,7 @@ expressed u t node base c r count many image after climbs whole d ns l k vbase v
     (holds-same image (entriesAt whole) (entriesBytes whole (d .entries)) (omega (arith, entries-length whole (d .entries), a .fewEntries, a .size, site .limited .nodes, site .limited .entries)) (a .entries)) in
     let due : Due u s base 0 [] (length l) c count image =
     record { later = l; entries = d .entries; mentioned = d .mentions; hears = hears; before = expression-due x; leads = ap (hearAll l) (within-self d (b .none) (b .free)) ∙ b .leads; stands = record { bytes = stood; counted = b .entries }; short = omega arith } in
-    let y = climbs s 0 [] (length l) (site .known) fair short (omega arith) (still-nothing 1) due in
+    let y = reads s (length l) room (site .known) fair (site .rested) short due in
     let p = y .0 in
     let z = is-end (p .after) (y .1) in
     let es = p .entries in
@@ -81,6 +81,7 @@ expressed u t node base c r count many image after climbs whole d ns l k vbase v
         variables = b .variables;
       },
       omega (arith, p .short, ap length (z .1)),
+      y .2,
     )
 
 -- ---- priorities and initial values
@@ -190,24 +191,26 @@ module _ (u : List ℕ) (whole : Draft) (before : List Node) (parent : ℕ) wher
         (record { leads = ap (hearAll (t .later)) (sym (b (t .next) (t .draft) (t .heard) (t .code) (y .0))) ∙ t .between .leads; none = t .between .none; free = t .between .free; laid = z; entries = t .between .entries; variables = t .between .variables ∙ sym (last-length (withInitial w) (t .draft .variables)) }) st
 
     -- a condition
-    pub told-condition : (c r : Cursor) (node base vbase many e : ℕ) (tb : Tables) (after : List ℕ) → Site u whole tb base vbase → node ≡ length before → size ≤ length u → 12 ≤ a .at .says → a .at .says < 19
-        → Expresses u tb node base (a .at) (a .entries) image c many after → e ≡ many - 1 → Stepped u c r
-        → Telling u whole before parent (size - 1) k (record { at = r; entries = many; variables = a .variables; priority = a .priority }) (set g (a .at .says - 12) e) after
+    pub told-condition : (c r : Cursor) (node base vbase many e : ℕ) (tb : Tables) (after : List ℕ) {A B : Type 0} → A → Site u whole tb base vbase → node ≡ length before → size ≤ length u → 12 ≤ a .at .says → a .at .says < 19
+        → ExpressesBy A B u tb node base (a .at) (a .entries) image c many after → e ≡ many - 1 → Stepped u c r
+        → Telling u whole before parent (size - 1) k (record { at = r; entries = many; variables = a .variables; priority = a .priority }) (set g (a .at .says - 12) e) after × B
     unfolding onNode hear intoSlot
-    told-condition c r node base vbase many e tb after site n m lo hi h le st =
+    told-condition c r node base vbase many e tb after room site n m lo hi h le st =
         let y = is-condition (t .phrase) (omega (arith, t .code)) (omega (arith, t .code)) in
         let i : ℕ = y .0 in
         let x : Saying = conditions i in
         let d : Draft = withSlot (condition i) (t .draft) in
         let p : a .at .says - 12 ≡ i = omega (arith, t .code, y .2) in
-        let z = h whole d before (t .later) (y .3) vbase (a .variables) site (n ∙ sym node-here) (omega (arith, more-all (t .next ∷ t .later) (t .draft) .0, ap (λ q. length (q .nodes)) (t .between .leads), ap length (t .current .nodes), more-length before (t .current .current), site .limited .nodes)) (y .4) (omega (arith, t .short)) (t .hears)
+        let z = h whole d before (t .later) (y .3) vbase (a .variables) room site (n ∙ sym node-here) (omega (arith, more-all (t .next ∷ t .later) (t .draft) .0, ap (λ q. length (q .nodes)) (t .between .leads), ap length (t .current .nodes), more-length before (t .current .current), site .limited .nodes)) (y .4) (omega (arith, t .short)) (t .hears)
         (record { leads = heard-so x (y .1); none = t .between .none; free = t .between .free; laid = t .between .laid; entries = t .between .entries; variables = t .between .variables }) in
         let es = z .0 in
         let now : Node = withGiven (set (t .current .current .given) i (last es)) (t .current .current) in
-        let same : set (t .current .current .given) i (last es) ≡ set g (a .at .says - 12) e = ap₂ (λ q j. set q j (last es)) (t .current .given) (sym p) ∙ ap (set g (a .at .says - 12)) (last-is es many e (z .3 .entries) le) in
-        told-next (y .3) k _ (size - 1) c _ (set g (a .at .says - 12) e) after (z .2) (y .5) (omega (arith, t .short, z .4))
-        (record { current = now; nodes = last-changed (λ q. withGiven (set (q .given) i (last es)) q); above = t .current .above; parent = t .current .parent; priority = t .current .priority; given = same; seven = length-set g (a .at .says - 12) e ∙ t .current .seven; plain = t .current .plain })
-        (z .3) st
+        let same : set (t .current .current .given) i (last es) ≡ set g (a .at .says - 12) e = ap₂ (λ q j. set q j (last es)) (t .current .given) (sym p) ∙ ap (set g (a .at .says - 12)) (last-is es many e (z .3 .entries) le) in (
+          told-next (y .3) k _ (size - 1) c _ (set g (a .at .says - 12) e) after (z .2) (y .5) (omega (arith, t .short, z .4))
+              (record { current = now; nodes = last-changed (λ q. withGiven (set (q .given) i (last es)) q); above = t .current .above; parent = t .current .parent; priority = t .current .priority; given = same; seven = length-set g (a .at .says - 12) e ∙ t .current .seven; plain = t .current .plain })
+              (z .3) st,
+          z .5,
+        )
 
 -- with more left than there may be
 pub told-on : {u : List ℕ} {whole : Draft} {before : List Node} {parent : ℕ} {k : Sayings} {a : Described} {g image : List ℕ} {size sizes : ℕ} → size ≤ sizes → Telling u whole before parent size k a g image → Telling u whole before parent sizes k a g image

@@ -26,6 +26,7 @@ use Rattle.notation.proofs.ImageLength.{length-join, nodes-many, entries-many, 
 use Rattle.recognise.specs.declared.Cursor.{Cursor}
 use Rattle.recognise.specs.declared.Recognised.{Recognised}
 use Rattle.recognise.specs.Recognised.{acceptedAs}
+use Rattle.recognise.proofs.NothingPending.{nothing-pending}
 use Rattle.recognise.proofs.Aptness.{all-apt}
 use Rattle.recognise.proofs.FewSaid.{few-said}
 use Rattle.names.specs.declared.table.Told.{Told}
@@ -41,7 +42,7 @@ use Rattle.build.specs.Standing.{mostBytes, entriesBytes, header}
 use Rattle.build.specs.Known.{Known, tables}
 use Rattle.build.specs.Declarations.{declared, Planned, Recorded, Rooted, Declares}
 use Rattle.build.specs.Laying.{Holds, headOf, Limited, Laid, entriesAt, variablesAt, lookupsAt, Site}
-use Rattle.build.specs.Telling.{ReadsNode, Opened, Done}
+use Rattle.build.specs.Telling.{ReadsNodeBy, Opened, Done}
 use Rattle.build.specs.Building.{countedTold, Makes, Builds}
 use Rattle.build.proofs.EntryLaws.{entries-length}
 use Rattle.build.proofs.HoldLaws.{stands, stays-before, holds-none, holds-more, holds-all}
@@ -124,21 +125,21 @@ root-opens u whole c image x a =
     (record { leads = x .leads; none = refl; free = refl; laid = a; entries = refl; variables = refl })
 
 -- ---- all sections
-pub made-all : (u fs ts os zero′ kind kind′ : List ℕ) (told : Told) (base vbase lbase : ℕ) (c : Cursor) (r : Course) (image image′ after : List ℕ) (l : List (Said Saying))
+pub made-all : {A B : Type 0} (u fs ts os zero′ kind kind′ : List ℕ) (told : Told) (base vbase lbase : ℕ) (c : Cursor) (r : Course) (image image′ after : List ℕ) (l : List (Said Saying))
     → ((l : List (Said Saying)) → length zero′ ≡ 704 → Accepted u l → Kinded (draftOf l) zero′ kind) → Declares u lbase image kind c image′ kind′
-    → ReadsNode u (tables fs ts os kind′ told) base vbase 65535 (length u) (record { at = c; nodes = 0; entries = 0; variables = 0 }) image′ r after
+    → ReadsNodeBy A B u (tables fs ts os kind′ told) base vbase 65535 (length u) (record { at = c; nodes = 0; entries = 0; variables = 0 }) image′ r after → A
     → length zero′ ≡ 704 → ((i : ℕ) → i < 320 → getD zero′ i 0 ≡ 0)
     → Accepted u l → Limited (draftOf l) → Ready u (taleSaid l) fs ts os told → told .lookups ≡ length (draftOf l .lookups) → told .variables ≡ length (draftOf l .variables)
     → base ≡ entriesAt (draftOf l) → vbase ≡ variablesAt (draftOf l) → lbase ≡ lookupsAt (draftOf l) → length image ≡ mostBytes → Holds image 0 (headOf (draftOf l))
     → Laid (draftOf l) (draftOf l .nodes) (draftOf l .entries) (draftOf l .variables) after
 unfolding hearAll
-made-all u fs ts os zero′ kind kind′ told base vbase lbase c r image image′ after l kinds declares reads size zeros a f ready e g b v p room head =
+made-all u fs ts os zero′ kind kind′ told base vbase lbase c r image image′ after l kinds declares reads many size zeros a f ready e g b v p room head =
     let k = kinds l size a in
     let d = declares (draftOf l) (planned u l a) (f .lookups) (omega (arith, f .nodes, f .entries, f .variables)) room (k .size) (λ i h. k .kept i h ∙ zeros i h) in
     let first = laid-first (draftOf l) image image′ f room head (d .1 .bytes ∙ ap (λ n. put image n (join (allLookups (draftOf l .lookups)))) p) in
-    let site : Site u (draftOf l) (tables fs ts os kind′ told) base vbase = record { known = known-all u fs ts os zero′ kind image kind′ told l lbase image′ a f ready e g k (d .1); limited = f; entries = b; variables = v } in
-    let done = reads (draftOf l) [] (length u) [] site (omega arith) (omega arith) (root-opens u (draftOf l) c image′ (d .0) first) in
-    subst (λ q. Laid (draftOf l) (q .nodes) (q .entries) (q .variables) after) (done .between .leads) (done .between .laid)
+    let site : Site u (draftOf l) (tables fs ts os kind′ told) base vbase = record { known = known-all u fs ts os zero′ kind image kind′ told l lbase image′ a f ready e g k (d .1); limited = f; rested = nothing-pending u l (a .says); entries = b; variables = v } in
+    let done = reads (draftOf l) [] (length u) [] many site (omega arith) (omega arith) (root-opens u (draftOf l) c image′ (d .0) first) in
+    subst (λ q. Laid (draftOf l) (q .nodes) (q .entries) (q .variables) after) (done .0 .between .leads) (done .0 .between .laid)
 
 -- ---- the image
 joined : (d : Draft) (image : List ℕ) → Laid d (d .nodes) (d .entries) (d .variables) image → Holds image 0 (imageOf d)

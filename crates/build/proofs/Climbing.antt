@@ -1,4 +1,4 @@
--- The steps of a reader that climbs.
+-- The steps of a reader of expressions.
 use Prim.Native.Nat.{ℕ, zero, suc, _+_, _-_, _≤_, _<_}
 use mathlib.Core.Path.{_≡_, refl, sym, _∙_, ap, subst}
 use mathlib.Core.Bool.{Bool, true, false}
@@ -41,7 +41,7 @@ leaf-code _ (is-unknown integer) = (omega arith, omega arith)
 leaf-code _ (is-unknown float) = (omega arith, omega arith)
 leaf-code _ is-lookup = (omega arith, omega arith)
 
-at-code : (w : Said Saying) (x : Saying) (n : ℕ) → Says w x → codeOf x ≡ n → codeOf (w .what) ≡ n
+pub at-code : (w : Said Saying) (x : Saying) (n : ℕ) → Says w x → codeOf x ≡ n → codeOf (w .what) ≡ n
 at-code w x n e f = ap codeOf e ∙ f
 
 code-mentions : codeOf mentions ≡ 43
@@ -56,11 +56,11 @@ code-parenthesis : codeOf parenthesis ≡ 91
 unfolding codeOf
 code-parenthesis = refl
 
-code-closes : codeOf closes ≡ 92
+pub code-closes : codeOf closes ≡ 92
 unfolding codeOf
 code-closes = refl
 
-code-ends : codeOf ends ≡ 93
+pub code-ends : codeOf ends ≡ 93
 unfolding codeOf
 code-ends = refl
 
@@ -97,7 +97,7 @@ before-not {w = w} (Flow.path e p a) h = absurd (omega (arith, at-code w mention
 before-not {w = w} (Flow.not e b) h = (e, b)
 before-not {w = w} (Flow.group e b) h = absurd (omega (arith, at-code w parenthesis 91 e code-parenthesis))
 
-operates-code : (w : Said Saying) (o : Operator) → Says w (operates o) → codeOf (w .what) ≡ ofOperator o
+pub operates-code : (w : Said Saying) (o : Operator) → Says w (operates o) → codeOf (w .what) ≡ ofOperator o
 operates-code w o e = at-code w (operates o) (ofOperator o) e (code-operates o)
 
 pub after-code : {n : ℕ} {w : Said Saying} {l k : Sayings} → After n (w ∷ l) k → (80 ≤ codeOf (w .what)) × (codeOf (w .what) ≤ 93)

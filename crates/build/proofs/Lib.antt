@@ -22,3 +22,6 @@ pub mod AttributeViews
 pub mod AttributeLaws
 pub mod NodeLaws
 pub mod BuildLaws
+pub mod PendingLaws
+pub mod Burden
+pub mod UnwindLaws

@@ -24,7 +24,7 @@ use Rattle.build.specs.Known.{Tables, MeansVariable, MeansCommand}
 use Rattle.build.specs.Standing.{within}
 use Rattle.build.specs.Steps.{Stepped}
 use Rattle.build.specs.Laying.{Laid, Site, Between, Current, Keeps}
-use Rattle.build.specs.Telling.{LaysNode, Expresses, Telling, Opened, Done, Listing}
+use Rattle.build.specs.Telling.{LaysNode, ExpressesBy, Telling, Opened, Done, Listing}
 use Rattle.build.proofs.Growing.{last-length, more-all}
 use Rattle.build.proofs.LayLaws.{more-length}
 use Rattle.build.proofs.AttributeViews.{is-list, is-command, is-assignment, first-node, is-closed, is-node}
@@ -98,16 +98,16 @@ module _ (u : List ℕ) (whole : Draft) (before : List Node) (parent size : ℕ)
       }
 
   -- an assignment
-  pub done-assignment : (node base vbase target many e n : ℕ) (r : Cursor) (tb : Tables) (after end : List ℕ) → Site u whole tb base vbase → node ≡ length before → size ≤ length u → (a .at .says ≡ 8 → ⊥) → (a .at .says ≡ 10 → ⊥) → a .at .says < 12
-      → (kind : ℕ) → MeansVariable u tb node (a .at) target kind → Expresses u tb node base (a .at) (a .entries) image r many after → e ≡ many - 1 → LaysNode node parent 2 (a .priority) g target e after n end
-      → Done u whole before parent size k (record { at = r; nodes = n; entries = many; variables = a .variables }) end
+  pub done-assignment : (node base vbase target many e n : ℕ) (r : Cursor) (tb : Tables) (after end : List ℕ) {A B : Type 0} → A → Site u whole tb base vbase → node ≡ length before → size ≤ length u → (a .at .says ≡ 8 → ⊥) → (a .at .says ≡ 10 → ⊥) → a .at .says < 12
+      → (kind : ℕ) → MeansVariable u tb node (a .at) target kind → ExpressesBy A B u tb node base (a .at) (a .entries) image r many after → e ≡ many - 1 → LaysNode node parent 2 (a .priority) g target e after n end
+      → Done u whole before parent size k (record { at = r; nodes = n; entries = many; variables = a .variables }) end × B
   unfolding hear onNode Hearing.mentioning intoSlot nodeBytes cur last
-  done-assignment node base vbase target many e n r tb after end site h short not8 not10 low kind means expr le lays =
+  done-assignment node base vbase target many e n r tb after end room′ site h short not8 not10 low kind means expr le lays =
       let y = is-assignment (t .phrase) (λ z. not8 (t .code ∙ z)) (λ z. not10 (t .code ∙ z)) (omega (arith, t .code)) in
       let x = t .next .token .bytes in
       let d : Draft = hear assigns (t .next .token) (t .draft) in
       let here-is : node ≡ here d = h ∙ sym (here-same x) in
-      let z = expr whole d before (t .later) k vbase (a .variables) site here-is (omega (arith, room, site .limited .nodes)) (y .1) (omega (arith, t .short)) (t .hears)
+      let z = expr whole d before (t .later) k vbase (a .variables) room′ site here-is (omega (arith, room, site .limited .nodes)) (y .1) (omega (arith, t .short)) (t .hears)
       (record { leads = heard-so u whole before parent size k a g image t assigns (y .0); none = t .between .none; free = t .between .free; laid = t .between .laid; entries = t .between .entries; variables = t .between .variables }) in
       let es = z .0 in
       let f : Node → Node = λ q. withBody (assignment x (last es)) q in
@@ -115,23 +115,25 @@ module _ (u : List ℕ) (whole : Draft) (before : List Node) (parent size : ℕ)
       let v = lays whole before es (t .draft .variables) (f cur) (site .limited) h room (z .3 .laid)
       (numbers 2 _ (last es) ∙ ap₂ (λ w l. Assemble.node parent 2 (a .priority) g w l) (sym m) (last-is es many e (z .3 .entries) le)) in
       let q : atLast (intoSlot value (last es)) (atLast (withBody (assignment x 0)) (t .draft .nodes)) ≡ before ▸ f cur =
-      ap (atLast (intoSlot value (last es))) (last-changed u whole before parent size k a g image t (withBody (assignment x 0))) ∙ at-last (intoSlot value (last es)) before (withBody (assignment x 0) cur) in
-      record {
-        draft = onNode (intoSlot value (last es)) (within d es (z .1) []);
-        hears = z .2;
-        short = omega (arith, t .short, z .4);
-        above = t .current .above;
-        counted = v .1 ∙ ap length (sym q);
-        keeps = subst (Keeps before) (sym q) (keeps-more before (f cur));
-        between = record {
-          leads = z .3 .leads;
-          none = refl;
-          free = refl;
-          laid = subst (λ ns. Laid whole ns es (t .draft .variables) end) (sym q) (v .0);
-          entries = z .3 .entries;
-          variables = z .3 .variables;
-        };
-      }
+      ap (atLast (intoSlot value (last es))) (last-changed u whole before parent size k a g image t (withBody (assignment x 0))) ∙ at-last (intoSlot value (last es)) before (withBody (assignment x 0) cur) in (
+        record {
+          draft = onNode (intoSlot value (last es)) (within d es (z .1) []);
+          hears = z .2;
+          short = omega (arith, t .short, z .4);
+          above = t .current .above;
+          counted = v .1 ∙ ap length (sym q);
+          keeps = subst (Keeps before) (sym q) (keeps-more before (f cur));
+          between = record {
+            leads = z .3 .leads;
+            none = refl;
+            free = refl;
+            laid = subst (λ ns. Laid whole ns es (t .draft .variables) end) (sym q) (v .0);
+            entries = z .3 .entries;
+            variables = z .3 .variables;
+          };
+        },
+        z .5,
+      )
     where
       here-same : (x : List ℕ) → last (atLast (withBody (assignment x 0)) (t .draft .nodes)) ≡ length before
       here-same x = ap (λ n. n - 1) (last-length (withBody (assignment x 0)) (t .draft .nodes)) ∙ node-here u whole before parent size k a g image t

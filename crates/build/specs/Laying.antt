@@ -61,6 +61,7 @@ pub record Laid (whole : Draft) (ns : List Node) (es : List Entry) (vs : List Va
 pub record Site (u : List ℕ) (whole : Draft) (t : Tables) (base vbase : ℕ) : Type 0 where
   pub known : Known u whole t
   pub limited : Limited whole
+  pub rested : whole .pending ≡ []
   pub entries : base ≡ entriesAt whole
   pub variables : vbase ≡ variablesAt whole
 

@@ -8,6 +8,7 @@ pub mod Known
 pub mod Named
 pub mod Questions
 pub mod Declarations
+pub mod Pendings
 pub mod Laying
 pub mod Telling
 pub mod Building

@@ -65,24 +65,6 @@ Emits base n op kind a b w image r after =
     (s : Scene) (es : List Entry) (e : Entry) → length (s .under) ≡ mostBytes → base ≤ 6164 → length es < 2048 → Stands s base image es n
     → entryBytes (s .whole) (kindsAfter (s .whole) [] es) e ≡ Assemble.expr op kind a b w → Stands s base after (es ▸ e) r
 
--- the run of parentheses before an operand is passed
-abbrev pub Opens : List ℕ → Cursor → ℕ → Cursor → ℕ → Type 0
-Opens u c left r nest =
-    (s : Scene) (base n : ℕ) (ps : List Pending) (size count : ℕ) (image : List ℕ) → size ≤ left → Due u s base n ps size c count image
-    → Met u s base (nest + n) (parens nest ps) size r count image × (r .says ≡ 91 → ⊥)
-
--- an operand that begins with no parenthesis is read
-abbrev pub Reads : List ℕ → Tables → ℕ → ℕ → ℕ → Cursor → ℕ → List ℕ → Cursor → ℕ → List ℕ → Type 0
-Reads u t node base left c count image r many after =
-    (s : Scene) (n : ℕ) (ps : List Pending) (size : ℕ) → Known u (s .whole) t → Fair s node base → size ≤ left → (c .says ≡ 91 → ⊥) → Met u s base n ps size c count image
-    → Past u s base n ps size r many after × (count < many)
-
--- operands are read, with the operators of strength k or more between them
-abbrev pub Climbs : List ℕ → Tables → ℕ → ℕ → ℕ → ℕ → Cursor → ℕ → List ℕ → Cursor → ℕ → List ℕ → Type 0
-Climbs u t node base k left c count image r many after =
-    (s : Scene) (n : ℕ) (ps : List Pending) (size : ℕ) → Known u (s .whole) t → Fair s node base → size ≤ left → 1 ≤ k → Still k ps → Due u s base n ps size c count image
-    → (p : Past u s base n ps size r many after) × (binding (p .next .what) < k) × (count < many)
-
 -- an operand that is no group and no NOT is read
 abbrev pub Leaves : List ℕ → Tables → ℕ → ℕ → ℕ → Cursor → ℕ → List ℕ → Cursor → ℕ → List ℕ → Type 0
 Leaves u t node base left c count image r many after =

@@ -19,6 +19,7 @@ use Rattle.build.specs.Flow.{codeOf}
 use Rattle.build.specs.Hearsay.{Hears, Heard, Apt}
 use Rattle.build.specs.Known.{Tables}
 use Rattle.build.specs.Standing.{within}
+use Rattle.build.specs.Pendings.{places}
 use Rattle.build.specs.Laying.{Limited, Laid, variablesAt, Site, Between, Current, Keeps}
 
 -- ---- records
@@ -41,11 +42,14 @@ LaysInitial base n w image after =
     → Laid whole ns es (atLast (withInitial w) vs) after
 
 -- ---- a node's own
--- an expression is read to its end
-abbrev pub Expresses : List ℕ → Tables → ℕ → ℕ → Cursor → ℕ → List ℕ → Cursor → ℕ → List ℕ → Type 0
-Expresses u t node base c count image r many after =
-    (whole d : Draft) (ns : List Node) (l k : Sayings) (vbase v : ℕ) → Site u whole t base vbase → node ≡ here d → node < 65535 → Expression l k → length l ≤ length u → Hears u c l → Between whole l d ns count v image
-    → (es : List Entry) × (ms : List Mentioned) × Hears u r k × Between whole k (onNode (intoSlot (d .slot) (last es)) (within d es ms [])) ns many v after × (length k < length l)
+-- an expression is read to its end; A is asked of the array of what is pending, and B holds of it then
+abbrev pub ExpressesBy : Type 0 → Type 0 → List ℕ → Tables → ℕ → ℕ → Cursor → ℕ → List ℕ → Cursor → ℕ → List ℕ → Type 0
+ExpressesBy A B u t node base c count image r many after =
+    (whole d : Draft) (ns : List Node) (l k : Sayings) (vbase v : ℕ) → A → Site u whole t base vbase → node ≡ here d → node < 65535 → Expression l k → length l ≤ length u → Hears u c l → Between whole l d ns count v image
+    → (es : List Entry) × (ms : List Mentioned) × Hears u r k × Between whole k (onNode (intoSlot (d .slot) (last es)) (within d es ms [])) ns many v after × (length k < length l) × B
+
+abbrev pub Expresses : List ℕ → Tables → ℕ → ℕ → Cursor → ℕ → List ℕ → List ℕ → Cursor → ℕ → List ℕ → List ℕ → Type 0
+Expresses u t node base c count a image r many b after = ExpressesBy (length a ≡ places) (length b ≡ places) u t node base c count image r many after
 
 -- a priority
 abbrev pub Ranks : List ℕ → Cursor → ℕ → Type 0
@@ -69,10 +73,10 @@ pub record Telling (u : List ℕ) (whole : Draft) (before : List Node) (parent s
   pub between : Between whole (next ∷ later) draft before (a .entries) (a .variables) image
 
 -- one attribute is told, and the next saying heard
-abbrev pub Describes : List ℕ → Tables → ℕ → ℕ → ℕ → Described → List ℕ → List ℕ → Described → List ℕ → List ℕ → Type 0
-Describes u t node base vbase a given image r given′ image′ =
-    (whole : Draft) (before : List Node) (parent size : ℕ) (k : Sayings) → Site u whole t base vbase → node ≡ length before → size ≤ length u → 12 ≤ a .at .says → Telling u whole before parent size k a given image
-    → Telling u whole before parent (size - 1) k r given′ image′
+abbrev pub Describes : List ℕ → Tables → ℕ → ℕ → ℕ → Described → List ℕ → List ℕ → List ℕ → Described → List ℕ → List ℕ → List ℕ → Type 0
+Describes u t node base vbase a pending given image r pending′ given′ image′ =
+    (whole : Draft) (before : List Node) (parent size : ℕ) (k : Sayings) → length pending ≡ places → Site u whole t base vbase → node ≡ length before → size ≤ length u → 12 ≤ a .at .says → Telling u whole before parent size k a given image
+    → Telling u whole before parent (size - 1) k r given′ image′ × (length pending′ ≡ places)
 
 -- ---- nodes and lists
 -- a node has begun, of which nothing more has been told; fewer than `size` sayings are left, or as many
@@ -87,10 +91,10 @@ pub record Opened (u : List ℕ) (whole : Draft) (before : List Node) (parent si
   pub between : Between whole later draft before (c .entries) (c .variables) image
 
 -- its attributes are told, and what it is has been heard: a list, a command or an assignment
-abbrev pub Attributed : List ℕ → Tables → ℕ → ℕ → ℕ → Course → List ℕ → List ℕ → Described → List ℕ → List ℕ → Type 0
-Attributed u t base vbase left c given image r given′ image′ =
-    (whole : Draft) (before : List Node) (parent size : ℕ) (k : Sayings) → Site u whole t base vbase → size ≤ left → left ≤ length u → given ≡ noConditions → Opened u whole before parent size k c image
-    → Telling u whole before parent size k r given′ image′ × (r .at .says < 12)
+abbrev pub Attributed : List ℕ → Tables → ℕ → ℕ → ℕ → Course → List ℕ → List ℕ → List ℕ → Described → List ℕ → List ℕ → List ℕ → Type 0
+Attributed u t base vbase left c pending given image r pending′ given′ image′ =
+    (whole : Draft) (before : List Node) (parent size : ℕ) (k : Sayings) → length pending ≡ places → Site u whole t base vbase → size ≤ left → left ≤ length u → given ≡ noConditions → Opened u whole before parent size k c image
+    → Telling u whole before parent size k r given′ image′ × (r .at .says < 12) × (length pending′ ≡ places)
 
 -- nodes that follow `before` have been read, with all that is in them, and the list that is open is the one they stand in; fewer than `size` sayings follow them
 pub record Done (u : List ℕ) (whole : Draft) (before : List Node) (parent size : ℕ) (k : Sayings) (c : Course) (image : List ℕ) : Type 0 where
@@ -103,15 +107,18 @@ pub record Done (u : List ℕ) (whole : Draft) (before : List Node) (parent size
   pub between : Between whole k draft (draft .nodes) (c .entries) (c .variables) image
 
 -- a command or an assignment is read
-abbrev pub Tasks : List ℕ → Tables → ℕ → ℕ → ℕ → ℕ → Described → List ℕ → List ℕ → Course → List ℕ → Type 0
-Tasks u t node base vbase parent a given image r after =
-    (whole : Draft) (before : List Node) (size : ℕ) (k : Sayings) → Site u whole t base vbase → node ≡ length before → size ≤ length u → (a .at .says ≡ 8 → ⊥) → a .at .says < 12
-    → Telling u whole before parent size k a given image → Done u whole before parent size k r after
+abbrev pub Tasks : List ℕ → Tables → ℕ → ℕ → ℕ → ℕ → Described → List ℕ → List ℕ → List ℕ → Course → List ℕ → List ℕ → Type 0
+Tasks u t node base vbase parent a pending given image r pending′ after =
+    (whole : Draft) (before : List Node) (size : ℕ) (k : Sayings) → length pending ≡ places → Site u whole t base vbase → node ≡ length before → size ≤ length u → (a .at .says ≡ 8 → ⊥) → a .at .says < 12
+    → Telling u whole before parent size k a given image → Done u whole before parent size k r after × (length pending′ ≡ places)
 
--- a node is read
-abbrev pub ReadsNode : List ℕ → Tables → ℕ → ℕ → ℕ → ℕ → Course → List ℕ → Course → List ℕ → Type 0
-ReadsNode u t base vbase parent left c image r after =
-    (whole : Draft) (before : List Node) (size : ℕ) (k : Sayings) → Site u whole t base vbase → size ≤ left → left ≤ length u → Opened u whole before parent size k c image → Done u whole before parent size k r after
+-- a node is read; A is asked of the array of what is pending, and B holds of it then
+abbrev pub ReadsNodeBy : Type 0 → Type 0 → List ℕ → Tables → ℕ → ℕ → ℕ → ℕ → Course → List ℕ → Course → List ℕ → Type 0
+ReadsNodeBy A B u t base vbase parent left c image r after =
+    (whole : Draft) (before : List Node) (size : ℕ) (k : Sayings) → A → Site u whole t base vbase → size ≤ left → left ≤ length u → Opened u whole before parent size k c image → Done u whole before parent size k r after × B
+
+abbrev pub ReadsNode : List ℕ → Tables → ℕ → ℕ → ℕ → ℕ → Course → List ℕ → List ℕ → Course → List ℕ → List ℕ → Type 0
+ReadsNode u t base vbase parent left c pending image r pending′ after = ReadsNodeBy (length pending ≡ places) (length pending′ ≡ places) u t base vbase parent left c image r after
 
 -- the list `list` is open, the nodes of it that are still to come are `later`, and the node of the list stands below `parent`
 pub record Listing (u : List ℕ) (whole d : Draft) (list parent size : ℕ) (k : Sayings) (c : Course) (image : List ℕ) : Type 0 where
@@ -126,6 +133,6 @@ pub record Listing (u : List ℕ) (whole d : Draft) (list parent size : ℕ) (k 
   pub between : Between whole later d (d .nodes) (c .entries) (c .variables) image
 
 -- the nodes of a list are read, to its end
-abbrev pub ReadsList : List ℕ → Tables → ℕ → ℕ → ℕ → ℕ → Course → List ℕ → Course → List ℕ → Type 0
-ReadsList u t base vbase list left c image r after =
-    (whole d : Draft) (parent size : ℕ) (k : Sayings) → Site u whole t base vbase → size ≤ left → left ≤ length u → Listing u whole d list parent size k c image → Done u whole (d .nodes) parent size k r after
+abbrev pub ReadsList : List ℕ → Tables → ℕ → ℕ → ℕ → ℕ → Course → List ℕ → List ℕ → Course → List ℕ → List ℕ → Type 0
+ReadsList u t base vbase list left c pending image r pending′ after =
+    (whole d : Draft) (parent size : ℕ) (k : Sayings) → length pending ≡ places → Site u whole t base vbase → size ≤ left → left ≤ length u → Listing u whole d list parent size k c image → Done u whole (d .nodes) parent size k r after × (length pending′ ≡ places)

@@ -32,12 +32,13 @@ pub fn expression<'a>(
     kind: &'a [usize; 704],
     told: Told,
     image: &mut [u8; 41108],
+    pending: &mut [usize; 6147],
     node: usize,
     base: usize,
     c: Cursor,
     count: usize,
 ) -> Progress
-    ensures { λ r. ⌜ Expresses (now (text .entry)) (tables (now (from .entry)) (now (to .entry)) (now (owner .entry)) (now (kind .entry)) told) node base c count (now (image .entry)) (r .at) (r .entries) (now (image .exit)) ⌝ }
+    ensures { λ r. ⌜ Expresses (now (text .entry)) (tables (now (from .entry)) (now (to .entry)) (now (owner .entry)) (now (kind .entry)) told) node base c count (now (pending .entry)) (now (image .entry)) (r .at) (r .entries) (now (pending .exit)) (now (image .exit)) ⌝ }
 {
     boolean(
         text,
@@ -47,11 +48,11 @@ pub fn expression<'a>(
         kind,
         told,
         image,
+        pending,
         node,
         base,
         c,
         count,
-        1,
         text.len(),
     )
 }
@@ -91,13 +92,14 @@ fn attribute<'a>(
     kind: &'a [usize; 704],
     told: Told,
     image: &mut [u8; 41108],
+    pending: &mut [usize; 6147],
     given: &mut [usize; 7],
     node: usize,
     base: usize,
     vbase: usize,
     a: Described,
 ) -> Described
-    ensures { λ r. ⌜ Describes (now (text .entry)) (tables (now (from .entry)) (now (to .entry)) (now (owner .entry)) (now (kind .entry)) told) node base vbase a (now (given .entry)) (now (image .entry)) r (now (given .exit)) (now (image .exit)) × (length (now (given .exit)) ≡ length (now (given .entry))) ⌝ }
+    ensures { λ r. ⌜ Describes (now (text .entry)) (tables (now (from .entry)) (now (to .entry)) (now (owner .entry)) (now (kind .entry)) told) node base vbase a (now (pending .entry)) (now (given .entry)) (now (image .entry)) r (now (pending .exit)) (now (given .exit)) (now (image .exit)) × (length (now (given .exit)) ≡ length (now (given .entry))) ⌝ }
 {
     let at = a.at;
     let says = at.says;
@@ -113,6 +115,7 @@ fn attribute<'a>(
             kind,
             told,
             image,
+            pending,
             node,
             base,
             at,
@@ -161,13 +164,14 @@ pub fn attributes<'a>(
     kind: &'a [usize; 704],
     told: Told,
     image: &mut [u8; 41108],
+    pending: &mut [usize; 6147],
     given: &mut [usize; 7],
     base: usize,
     vbase: usize,
     c: Course,
     left: usize,
 ) -> Described
-    ensures { λ r. ⌜ Attributed (now (text .entry)) (tables (now (from .entry)) (now (to .entry)) (now (owner .entry)) (now (kind .entry)) told) base vbase left c (now (given .entry)) (now (image .entry)) r (now (given .exit)) (now (image .exit)) × (length (now (given .exit)) ≡ length (now (given .entry))) ⌝ }
+    ensures { λ r. ⌜ Attributed (now (text .entry)) (tables (now (from .entry)) (now (to .entry)) (now (owner .entry)) (now (kind .entry)) told) base vbase left c (now (pending .entry)) (now (given .entry)) (now (image .entry)) r (now (pending .exit)) (now (given .exit)) (now (image .exit)) × (length (now (given .exit)) ≡ length (now (given .entry))) ⌝ }
 {
     let node = c.nodes;
     let mut a = Described {
@@ -190,6 +194,7 @@ pub fn attributes<'a>(
             kind,
             told,
             image,
+            pending,
             given,
             node,
             base,

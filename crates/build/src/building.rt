@@ -38,6 +38,7 @@ fn sections<'a>(
     ensures { λ _. ⌜ Makes (now (text .entry)) (now (from .entry)) (now (to .entry)) (now (owner .entry)) told base vbase lbase (now (image .entry)) (now (image .exit)) ⌝ }
 {
     let mut kind = [0usize; 704];
+    let mut pending = [0usize; 6147];
     fill_kinds(text, &mut kind);
     let at = declarations(text, image, &mut kind, lbase);
     let start = Course {
@@ -54,6 +55,7 @@ fn sections<'a>(
         &kind,
         told,
         image,
+        &mut pending,
         base,
         vbase,
         65535,

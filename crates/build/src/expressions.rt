@@ -1,18 +1,17 @@
-// Expressions: "boolean" and "numeric", which call each other with what is left falling.
-use super::entries::emit;
-use super::entries::end_operator;
+// Expressions: "boolean", whose operators are kept until their right operands have ended, with operands that are "numeric".
 use super::entries::last;
-use super::entries::strength;
-use super::leaves::leaf;
+use super::leaves::numeric;
+use super::pending::Stand;
+use super::pending::follow;
+use super::pending::prefixes;
+use super::pending::push;
 use super::steps::Progress;
-use super::steps::next;
-use super::steps::opened;
 use names::Told;
 use recognise::Cursor;
 ghost use Rattle.build.specs.Known.{tables};
-ghost use Rattle.build.specs.Steps.{Reads, Climbs};
+ghost use Rattle.build.specs.Pendings.{Reads};
 
-// Operands with the operators between them that bind at least as strongly as k, or stand in a group that begins with the first operand.
+// Operands with the operators between them, to the end of the expression, with at most `left` of each.
 pub fn boolean<'a>(
     text: &'a [u8],
     from: &'a [usize; 704],
@@ -21,95 +20,26 @@ pub fn boolean<'a>(
     kind: &'a [usize; 704],
     told: Told,
     image: &mut [u8; 41108],
+    pending: &mut [usize; 6147],
     node: usize,
     base: usize,
     c: Cursor,
     count: usize,
-    k: u8,
     left: usize,
 ) -> Progress
-    ensures { λ r. ⌜ Climbs (now (text .entry)) (tables (now (from .entry)) (now (to .entry)) (now (owner .entry)) (now (kind .entry)) told) node base k left c count (now (image .entry)) (r .at) (r .entries) (now (image .exit)) ⌝ }
+    ensures { λ r. ⌜ Reads (now (text .entry)) (tables (now (from .entry)) (now (to .entry)) (now (owner .entry)) (now (kind .entry)) told) node base left c count (now (pending .entry)) (now (image .entry)) (r .at) (r .entries) (now (pending .exit)) (now (image .exit)) ⌝ }
 {
-    let run = opened(text, c, left);
-    let mut nest = run.nest;
-    let start = run.at;
-    let first = numeric(
-        text,
-        from,
-        to,
-        owner,
-        kind,
-        told,
-        image,
-        node,
-        base,
-        start,
-        count,
-        left,
-    );
-    let mut at = first.at;
-    let mut n = first.entries;
+    pending[2] = 0;
+    let mut s = Stand {
+        at: c,
+        top: 0,
+        entries: count,
+    };
     let mut turns: usize = 0;
     while turns < left {
-        let says = at.says;
-        let s = strength(says);
-        if nest == 0 {
-            if s < k {
-                return Progress { at: at, entries: n };
-            }
-        }
-        if says == 92 {
-            nest = last(nest);
-            at = next(text, at);
-        } else {
-            let right = boolean(
-                text,
-                from,
-                to,
-                owner,
-                kind,
-                told,
-                image,
-                node,
-                base,
-                at,
-                n,
-                s + 1,
-                left - 1,
-            );
-            n = end_operator(image, base, right.entries, says, last(n));
-            at = right.at;
-        }
-        turns += 1;
-    }
-    Progress { at: at, entries: n }
-}
-
-// An operand whose first saying has been heard, and is no parenthesis.
-pub fn numeric<'a>(
-    text: &'a [u8],
-    from: &'a [usize; 704],
-    to: &'a [usize; 704],
-    owner: &'a [usize; 704],
-    kind: &'a [usize; 704],
-    told: Told,
-    image: &mut [u8; 41108],
-    node: usize,
-    base: usize,
-    at: Cursor,
-    count: usize,
-    left: usize,
-) -> Progress
-    ensures { λ r. ⌜ Reads (now (text .entry)) (tables (now (from .entry)) (now (to .entry)) (now (owner .entry)) (now (kind .entry)) told) node base left at count (now (image .entry)) (r .at) (r .entries) (now (image .exit)) ⌝ }
-{
-    if left == 0 {
-        return Progress {
-            at: at,
-            entries: count,
-        };
-    }
-    if at.says != 79 {
-        return leaf(
+        let o = prefixes(text, pending, s.top, s.at, left);
+        let first = o.at;
+        let p = numeric(
             text,
             from,
             to,
@@ -119,30 +49,35 @@ pub fn numeric<'a>(
             image,
             node,
             base,
-            at,
-            count,
+            first,
+            s.entries,
             left,
         );
+        let after = p.at;
+        let read = Stand {
+            at: after,
+            top: o.top,
+            entries: p.entries,
+        };
+        let f = follow(text, image, base, pending, read, left);
+        let at = f.at;
+        if at.says > 90 {
+            return Progress {
+                at: at,
+                entries: f.entries,
+            };
+        }
+        let top = push(pending, f.top, at.says, last(f.entries));
+        s = Stand {
+            at: at,
+            top: top,
+            entries: f.entries,
+        };
+        turns += 1;
     }
-    let inner = boolean(
-        text,
-        from,
-        to,
-        owner,
-        kind,
-        told,
-        image,
-        node,
-        base,
-        at,
-        count,
-        4,
-        left - 1,
-    );
-    let n = emit(image, base, inner.entries, 6, 0, last(inner.entries), 0, 0);
-    let after = inner.at;
+    let at = s.at;
     Progress {
-        at: after,
-        entries: n,
+        at: at,
+        entries: s.entries,
     }
 }

@@ -1,4 +1,4 @@
-// Operands that are no group and no NOT: constants, lookups, variables, and questions about a node.
+// Operands that are no group and no NOT, "numeric" expressions among them: constants, lookups, variables, and questions about a node.
 use super::entries::emit;
 use super::known::lookup;
 use super::known::variable;
@@ -99,7 +99,8 @@ fn lookup_entry<'a>(
     emit(image, base, count, 2, (v.kind % 256) as u8, v.number, 0, 0)
 }
 
-pub fn leaf<'a>(
+// An operand, whose first saying has been heard.
+pub fn numeric<'a>(
     text: &'a [u8],
     from: &'a [usize; 704],
     to: &'a [usize; 704],

@@ -10,6 +10,7 @@ mod leaves;
 mod literals;
 mod nodes;
 mod paths;
+mod pending;
 mod steps;
 mod write;
 

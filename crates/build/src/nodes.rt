@@ -31,6 +31,7 @@ fn task<'a>(
     kind: &'a [usize; 704],
     told: Told,
     image: &mut [u8; 41108],
+    pending: &mut [usize; 6147],
     given: &'a [usize; 7],
     node: usize,
     base: usize,
@@ -39,7 +40,7 @@ fn task<'a>(
     a: Described,
 ) -> Course
     requires { ⌜ length (now given) ≡ 7 ⌝ }
-    ensures { λ r. ⌜ Tasks (now (text .entry)) (tables (now (from .entry)) (now (to .entry)) (now (owner .entry)) (now (kind .entry)) told) node base vbase parent a (now (given .entry)) (now (image .entry)) r (now (image .exit)) ⌝ }
+    ensures { λ r. ⌜ Tasks (now (text .entry)) (tables (now (from .entry)) (now (to .entry)) (now (owner .entry)) (now (kind .entry)) told) node base vbase parent a (now (pending .entry)) (now (given .entry)) (now (image .entry)) r (now (pending .exit)) (now (image .exit)) ⌝ }
 {
     let at = a.at;
     if at.says == 10 {
@@ -61,6 +62,7 @@ fn task<'a>(
         kind,
         told,
         image,
+        pending,
         node,
         base,
         at,
@@ -94,13 +96,14 @@ pub fn node<'a>(
     kind: &'a [usize; 704],
     told: Told,
     image: &mut [u8; 41108],
+    pending: &mut [usize; 6147],
     base: usize,
     vbase: usize,
     parent: usize,
     c: Course,
     left: usize,
 ) -> Course
-    ensures { λ r. ⌜ ReadsNode (now (text .entry)) (tables (now (from .entry)) (now (to .entry)) (now (owner .entry)) (now (kind .entry)) told) base vbase parent left c (now (image .entry)) r (now (image .exit)) ⌝ }
+    ensures { λ r. ⌜ ReadsNode (now (text .entry)) (tables (now (from .entry)) (now (to .entry)) (now (owner .entry)) (now (kind .entry)) told) base vbase parent left c (now (pending .entry)) (now (image .entry)) r (now (pending .exit)) (now (image .exit)) ⌝ }
 {
     let mut given = [65535usize; 7];
     let a = attributes(
@@ -111,6 +114,7 @@ pub fn node<'a>(
         kind,
         told,
         image,
+        pending,
         &mut given,
         base,
         vbase,
@@ -128,6 +132,7 @@ pub fn node<'a>(
             kind,
             told,
             image,
+            pending,
             &given,
             number,
             base,
@@ -154,6 +159,7 @@ pub fn node<'a>(
         kind,
         told,
         image,
+        pending,
         base,
         vbase,
         number,
@@ -171,13 +177,14 @@ pub fn list<'a>(
     kind: &'a [usize; 704],
     told: Told,
     image: &mut [u8; 41108],
+    pending: &mut [usize; 6147],
     base: usize,
     vbase: usize,
     above: usize,
     c: Course,
     left: usize,
 ) -> Course
-    ensures { λ r. ⌜ ReadsList (now (text .entry)) (tables (now (from .entry)) (now (to .entry)) (now (owner .entry)) (now (kind .entry)) told) base vbase above left c (now (image .entry)) r (now (image .exit)) ⌝ }
+    ensures { λ r. ⌜ ReadsList (now (text .entry)) (tables (now (from .entry)) (now (to .entry)) (now (owner .entry)) (now (kind .entry)) told) base vbase above left c (now (pending .entry)) (now (image .entry)) r (now (pending .exit)) (now (image .exit)) ⌝ }
 {
     let mut s = c;
     let mut turns: usize = 0;
@@ -200,6 +207,7 @@ pub fn list<'a>(
             kind,
             told,
             image,
+            pending,
             base,
             vbase,
             above,

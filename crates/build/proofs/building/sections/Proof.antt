@@ -26,7 +26,8 @@ node-requires c κs = search needs
 
 -- src/building.rt:27:1
 returns : tie.Need-returns
-returns c l a f ready e g b v p room head = made-all _ _ _ _ _ _ _ _ _ _ _ _ _ _ _ _ l (c .before .before .before .before .before .before .fill-kinds .ensures) (c .before .before .before .declarations .ensures) (c .node .ensures) refl (λ i h. getD-replicate 704 i 0 0 (omega arith)) a f ready e g b v p room head
+returns c l a f ready e g b v p room head =
+    made-all _ _ _ _ _ _ _ _ _ _ _ _ _ _ _ _ l (c .before .before .before .before .before .before .before .fill-kinds .ensures) (c .before .before .before .before .declarations .ensures) (c .node .ensures) refl refl (λ i h. getD-replicate 704 i 0 0 (omega arith)) a f ready e g b v p room head
 
 pub sections-spec : {M : Type 1} → statement M
 sections-spec =

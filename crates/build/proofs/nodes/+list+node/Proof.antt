@@ -1,12 +1,13 @@
 -- `build::nodes::list` and `build::nodes::node`, which call each other, meet their contracts. The invariant of the list: what has been read of it has its records, and the others follow.
 use Prim.Native.Nat.{ℕ, _<_, _≤_, _-_}
-use mathlib.Core.Path.{refl}
+use mathlib.Core.Path.{_≡_, refl}
 use native.Mathlib.Omega.{arith}
 use borrow.Author.Needs.{needs}
 use lib.ListN.{length}
 use Rattle.notation.specs.Phrases.{Sayings}
 use Rattle.notation.specs.Draft.{Draft}
 use Rattle.build.specs.Known.{tables}
+use Rattle.build.specs.Pendings.{places}
 use Rattle.build.specs.Laying.{Site, Keeps}
 use Rattle.build.specs.Telling.{Listing}
 use Rattle.build.proofs.NodeLaws.{keeps-same, keeps-all, done-in, list-opens, list-ends, node-begins, list-goes, listing-on, some-left}
@@ -25,31 +26,31 @@ use Rattle.build.proofs.steps.next.Reads as next-reads
 use Rattle.build.proofs.nodes.+list+node.{statement}
 use Rattle.build.proofs.nodes.+list+node.Tie.{close}
 
-abbrev μ-list : Measures 2 list-kinds.ps ℕ
-μ-list κs a = a .1 .1 .1 .1 .1 .1 .1 .1 .1 .1 .1 .0
+abbrev μ-list : Measures 3 list-kinds.ps ℕ
+μ-list κs a = a .1 .1 .1 .1 .1 .1 .1 .1 .1 .1 .1 .1 .0
 
-abbrev μ-node : Measures 2 node-kinds.ps ℕ
-μ-node κs a = a .1 .1 .1 .1 .1 .1 .1 .1 .1 .1 .1 .0
+abbrev μ-node : Measures 3 node-kinds.ps ℕ
+μ-node κs a = a .1 .1 .1 .1 .1 .1 .1 .1 .1 .1 .1 .1 .0
 
-abbrev list-at : ℕ → In 2 list-kinds.ps
-list-at t = and 2 list-kinds.ps (is 2 list-kinds.ps μ-list t) list.Pre
+abbrev list-at : ℕ → In 3 list-kinds.ps
+list-at t = and 3 list-kinds.ps (is 3 list-kinds.ps μ-list t) list.Pre
 
-abbrev list-below : ℕ → In 2 list-kinds.ps
-list-below t = and 2 list-kinds.ps (falls 2 list-kinds.ps _<_ μ-list t) list.Pre
+abbrev list-below : ℕ → In 3 list-kinds.ps
+list-below t = and 3 list-kinds.ps (falls 3 list-kinds.ps _<_ μ-list t) list.Pre
 
-abbrev node-at : ℕ → In 2 node-kinds.ps
-node-at t = and 2 node-kinds.ps (is 2 node-kinds.ps μ-node t) node.Pre
+abbrev node-at : ℕ → In 3 node-kinds.ps
+node-at t = and 3 node-kinds.ps (is 3 node-kinds.ps μ-node t) node.Pre
 
-abbrev node-below : ℕ → In 2 node-kinds.ps
-node-below t = and 2 node-kinds.ps (falls 2 node-kinds.ps _<_ μ-node t) node.Pre
+abbrev node-below : ℕ → In 3 node-kinds.ps
+node-below t = and 3 node-kinds.ps (falls 3 node-kinds.ps _<_ μ-node t) node.Pre
 
 abbrev list-Inv-loop : list-lts.InvT-loop
-list-Inv-loop text from to owner kind told image₀ base vbase above left s₀ turns₀ image s turns =
-    (whole d : Draft) (parent size : ℕ) (k : Sayings) → Site text whole (tables from to owner kind told) base vbase → size ≤ left → left ≤ length text → Listing text whole d above parent size k s₀ image₀
-    → (e : Draft) × Listing text whole e above parent (size - turns) k s image × Keeps (d .nodes) (e .nodes)
+list-Inv-loop text from to owner kind told image₀ pending₀ base vbase above left s₀ turns₀ image pending s turns =
+    (whole d : Draft) (parent size : ℕ) (k : Sayings) → length pending₀ ≡ places → Site text whole (tables from to owner kind told) base vbase → size ≤ left → left ≤ length text → Listing text whole d above parent size k s₀ image₀
+    → (e : Draft) × Listing text whole e above parent (size - turns) k s image × Keeps (d .nodes) (e .nodes) × (length pending ≡ places)
 
 abbrev list-μ-loop : list-lts.MeasureT-loop
-list-μ-loop text from to owner kind told image₀ base vbase above left s₀ turns₀ image s turns = left - turns
+list-μ-loop text from to owner kind told image₀ pending₀ base vbase above left s₀ turns₀ image pending s turns = left - turns
 
 -- src/nodes.rt:184:5
 list-loop-holds : (t : ℕ) → list-lts.Need-loop-holds (
@@ -58,7 +59,7 @@ list-loop-holds : (t : ℕ) → list-lts.Need-loop-holds (
   node-below t,
   node.Post,
 ) (list-at t) list.Post list-Inv-loop list-μ-loop
-list-loop-holds t c whole d parent size k site h m l = (d, listing-on (omega arith) l, keeps-same (d .nodes))
+list-loop-holds t c whole d parent size k room site h m l = (d, listing-on (omega arith) l, keeps-same (d .nodes), room)
 
 -- src/nodes.rt:185:13
 list-next-requires : (t : ℕ) → list-lts.Need-next-requires (
@@ -76,9 +77,9 @@ list-returns : (t : ℕ) → list-lts.Need-returns (
   node-below t,
   node.Post,
 ) (list-at t) list.Post list-Inv-loop list-μ-loop
-list-returns t c whole d parent size k site h m l =
-    let i = c .before .before .before .before .loop .inv whole d parent size k site h m l in
-    done-in (i .2) (omega arith) (list-ends _ whole (i .0) parent _ _ k _ _ (i .1) _ (c .before .before .next .ensures) (c .if1 .taken))
+list-returns t c whole d parent size k room site h m l =
+    let i = c .before .before .before .before .loop .inv whole d parent size k room site h m l in
+    (done-in (i .2) (omega arith) (list-ends _ whole (i .0) parent _ _ k _ _ (i .1) _ (c .before .before .next .ensures) (c .if1 .taken)), i .3)
 
 -- src/nodes.rt:207:13
 list-sub-node : (t : ℕ) → list-lts.Need-sub-node (
@@ -123,11 +124,12 @@ list-loop-again : (t : ℕ) → list-lts.Need-loop-again (
   node-below t,
   node.Post,
 ) (list-at t) list.Post list-Inv-loop list-μ-loop
-list-loop-again t c whole d parent size k site h m l =
-    let i = c .before .before .before .before .before .before .loop .inv whole d parent size k site h m l in
-    let o = node-begins _ whole (i .0) parent _ _ k _ _ (i .1) _ (c .before .before .before .before .next .ensures) (c .before .before .if1 .left) in
-    let x = c .node .ensures whole (i .0 .nodes) _ (o .0) site (omega arith) (omega arith) (o .1) in
-    (x .draft, listing-on (omega arith) (list-goes (i .1) (o .2) x), keeps-all (d .nodes) (i .0 .nodes) (x .draft .nodes) (i .2) (x .keeps))
+list-loop-again t c whole d parent size k room site h m l =
+    let i = c .before .before .before .before .before .before .before .loop .inv whole d parent size k room site h m l in
+    let o = node-begins _ whole (i .0) parent _ _ k _ _ (i .1) _ (c .before .before .before .before .before .next .ensures) (c .before .before .before .if1 .left) in
+    let y = c .node .ensures whole (i .0 .nodes) _ (o .0) (i .3) site (omega arith) (omega arith) (o .1) in
+    let x = y .0 in
+    (x .draft, listing-on (omega arith) (list-goes (i .1) (o .2) x), keeps-all (d .nodes) (i .0 .nodes) (x .draft .nodes) (i .2) (x .keeps), y .1)
 
 -- src/nodes.rt:166:1
 list-returns-2 : (t : ℕ) → list-lts.Need-returns-2 (
@@ -136,7 +138,7 @@ list-returns-2 : (t : ℕ) → list-lts.Need-returns-2 (
   node-below t,
   node.Post,
 ) (list-at t) list.Post list-Inv-loop list-μ-loop
-list-returns-2 t c whole d parent size k site h m l = let i = c .before .loop .inv whole d parent size k site h m l in absurd (omega (arith, some-left (i .1)))
+list-returns-2 t c whole d parent size k room site h m l = let i = c .before .loop .inv whole d parent size k room site h m l in absurd (omega (arith, some-left (i .1)))
 
 -- src/nodes.rt:106:9
 node-attributes-requires : (t : ℕ) → node-lts.Need-attributes-requires (
@@ -162,7 +164,7 @@ node-task-requires : (t : ℕ) → node-lts.Need-task-requires (
   list-below t,
   list.Post,
 ) (node-at t) node.Post
-node-task-requires t c κs = c .before .before .before .before .before .attributes .ensures .1
+node-task-requires t c κs = c .before .before .before .before .before .before .attributes .ensures .1
 
 -- src/nodes.rt:123:9
 node-returns : (t : ℕ) → node-lts.Need-returns (
@@ -175,9 +177,9 @@ node-returns : (t : ℕ) → node-lts.Need-returns (
   list-below t,
   list.Post,
 ) (node-at t) node.Post
-node-returns t c whole before size k site h m o =
-    let a = c .before .before .before .before .before .before .attributes .ensures .0 whole before _ size k site h m refl o in
-    c .task .ensures whole before size k site (o .counted) (omega arith) (c .before .before .before .if1 .taken) (a .1) (a .0)
+node-returns t c whole before size k room site h m o =
+    let a = c .before .before .before .before .before .before .before .attributes .ensures .0 whole before _ size k room site h m refl o in
+    c .task .ensures whole before size k (a .2) site (o .counted) (omega arith) (c .before .before .before .before .if1 .taken) (a .1) (a .0)
 
 -- src/nodes.rt:139:9
 node-add-node-requires : (t : ℕ) → node-lts.Need-add-node-requires (
@@ -203,7 +205,7 @@ node-returns-2 : (t : ℕ) → node-lts.Need-returns-2 (
   list-below t,
   list.Post,
 ) (node-at t) node.Post
-node-returns-2 t c whole before size k site h m o = absurd (omega (arith, c .before .before .before .before .before .before .before .attributes .ensures .0 whole before _ size k site h m refl o .0 .short))
+node-returns-2 t c whole before size k room site h m o = absurd (omega (arith, c .before .before .before .before .before .before .before .attributes .ensures .0 whole before _ size k room site h m refl o .0 .short))
 
 -- src/nodes.rt:161:9
 node-sub-list : (t : ℕ) → node-lts.Need-sub-list (
@@ -242,10 +244,11 @@ node-returns-3 : (t : ℕ) → node-lts.Need-returns-3 (
   list-below t,
   list.Post,
 ) (node-at t) node.Post
-node-returns-3 t c whole before size k site h m o =
-    let a = c .before .before .before .before .before .before .before .before .before .attributes .ensures .0 whole before _ size k site h m refl o in
-    let l = list-opens _ whole before _ size k _ _ _ (a .0) _ _ _ _ _ _ site (o .counted) (c .before .before .before .before .before .before .if1 .left) (c .before .before .before .add-node .ensures) in
-    done-in (l .2) (omega arith) (c .list .ensures whole (l .0) _ (size - 1) k site (omega arith) (omega arith) (l .1))
+node-returns-3 t c whole before size k room site h m o =
+    let a = c .before .before .before .before .before .before .before .before .before .before .attributes .ensures .0 whole before _ size k room site h m refl o in
+    let l = list-opens _ whole before _ size k _ _ _ (a .0) _ _ _ _ _ _ site (o .counted) (c .before .before .before .before .before .before .before .if1 .left) (c .before .before .before .before .add-node .ensures) in
+    let x = c .list .ensures whole (l .0) _ (size - 1) k (a .2) site (omega arith) (omega arith) (l .1) in
+    (done-in (l .2) (omega arith) (x .0), x .1)
 
 pub +list+node-spec : {M : Type 1} → statement M
 +list+node-spec = close μ-list μ-node (λ t. list-lts.spec (

@@ -22,7 +22,7 @@ add-node-requires c κs = search needs
 
 -- src/nodes.rt:48:9
 returns : tie.Need-returns
-returns c whole before size k site n m f g t = done-command _ whole before _ size k _ _ _ t _ _ _ _ _ _ _ site n (omega arith) (c .before .before .command .ensures) (c .add-node .ensures)
+returns c whole before size k room site n m f g t = (done-command _ whole before _ size k _ _ _ t _ _ _ _ _ _ _ site n (omega arith) (c .before .before .command .ensures) (c .add-node .ensures), room)
 
 -- src/nodes.rt:55:9
 variable-requires : tie.Need-variable-requires
@@ -42,8 +42,8 @@ add-node-requires-2 c κs = search needs
 
 -- src/nodes.rt:26:1
 returns-2 : tie.Need-returns-2
-returns-2 c whole before size k site n m f g t =
-    done-assignment _ whole before _ size k _ _ _ t _ _ _ _ _ _ _ _ _ _ _ site n m f (c .before .before .before .before .before .before .before .if1 .left) g _ (c .before .before .before .before .before .before .variable .ensures) (c .before .before .before .before .expression .ensures) (c .before .before .last .ensures) (c .before .add-node2 .ensures)
+returns-2 c whole before size k room site n m f g t =
+    done-assignment _ whole before _ size k _ _ _ t _ _ _ _ _ _ _ _ _ _ _ room site n m f (c .before .before .before .before .before .before .before .before .if1 .left) g _ (c .before .before .before .before .before .before .before .variable .ensures) (c .before .before .before .before .expression .ensures) (c .before .before .last .ensures) (c .before .add-node2 .ensures)
 
 pub task-spec : {M : Type 1} → statement M
 task-spec =

@@ -2,10 +2,10 @@ use mathlib.Core.Path.{sym, _∙_}
 use native.Mathlib.Omega.{arith}
 use Rattle.build.proofs.LeafLaws.{leaf-past, name-past, name-held, lookup-stands}
 use borrow.Author.Needs.{needs}
-use Rattle.build.proofs.leaves.leaf.Statement.{statement}
-use Rattle.build.proofs.leaves.leaf.Tie as tie
-use Rattle.build.proofs.leaves.leaf.Reads as reads
-use Rattle.build.proofs.leaves.leaf.Lts as lts
+use Rattle.build.proofs.leaves.numeric.Statement.{statement}
+use Rattle.build.proofs.leaves.numeric.Tie as tie
+use Rattle.build.proofs.leaves.numeric.Reads as reads
+use Rattle.build.proofs.leaves.numeric.Lts as lts
 use Rattle.build.proofs.leaves.lookup_entry.Reads as lookup-entry-reads
 use Rattle.build.proofs.leaves.question.Reads as question-reads
 use Rattle.build.proofs.leaves.variable_entry.Reads as variable-entry-reads
@@ -52,8 +52,8 @@ returns-4 : tie.Need-returns-4
 returns-4 c s n ps size kn f h g1 g2 m = name-past _ s _ n ps size _ _ _ _ _ _ _ m f (omega arith) g1 g2 (c .before .before .before .before .before .before .before .before .next .ensures) (omega arith)
     (λ es few t. c .variable-entry .ensures s es kn (f .room) (f .low) few t (m .heard .ordered, m .heard .inside))
 
-pub leaf-spec : {M : Type 1} → statement M
-leaf-spec =
+pub numeric-spec : {M : Type 1} → statement M
+numeric-spec =
     tie.close
     (tie.spec
     next-requires
