@@ -37,6 +37,7 @@ use Rattle.names.specs.Tale.{listOf}
 use Rattle.names.specs.View.{ofLookup, ofVariable}
 use Rattle.names.proofs.Told.{told}
 use Rattle.names.proofs.RowLaws.{rows-length}
+use Rattle.recognise.specs.Tape.{Tape}
 use Rattle.build.specs.declared.nodes.Course.{Course}
 use Rattle.build.specs.Standing.{mostBytes, entriesBytes, header}
 use Rattle.build.specs.Known.{Known, tables}
@@ -76,22 +77,25 @@ known-all u fs ts os zero′ kind old after told l base image a f r e g k q =
 -- tables that are whole have the text's counts already
 module _ (u fs ts os : List ℕ) (t : Told) (l : List (Said Saying)) (a : Accepted u l) (r : Ready u (taleSaid l) fs ts os t) (w : t .whole ≡ true) where
   lookups-told : t .lookups ≡ length (draftOf l .lookups)
-  unfolding Ready countOf listOf
+  unfolding countOf listOf
   lookups-told =
-      let s = r w 1 (omega arith) in
+      let s = r .tabled w 1 (omega arith) in
       sym (rows-length u fs ts os (baseOf 1) (countOf t 1)) ∙ ap length (s .same) ∙ sym (ap (λ b. length (b .lookups)) (told u l (a .says) .view)) ∙ length-map (draftOf l .lookups) ofLookup
 
   variables-told : t .variables ≡ length (draftOf l .variables)
-  unfolding Ready countOf listOf
+  unfolding countOf listOf
   variables-told =
-      let s = r w 2 (omega arith) in
+      let s = r .tabled w 2 (omega arith) in
       sym (rows-length u fs ts os (baseOf 2) (countOf t 2)) ∙ ap length (s .same) ∙ sym (ap (λ b. length (b .variables)) (told u l (a .says) .view)) ∙ length-map (draftOf l .variables) ofVariable
 
 counted-ready : (u fs ts os : List ℕ) (t : Told) (seen : Recognised) (l : List (Said Saying)) → Accepted u l → seen ≡ acceptedAs (draftOf l) → Ready u (taleSaid l) fs ts os t → Ready u (taleSaid l) fs ts os (countedTold t seen)
-unfolding Ready countedTold acceptedAs
-counted-ready u fs ts os t seen l a e r w =
-    subst (λ x. (k : ℕ) → k < 4 → TabledSort u (taleSaid l) fs ts os x k)
-    (ap₂ (λ x y. record { whole = t .whole; commands = t .commands; lookups = x; variables = y; nodes = t .nodes }) (lookups-told u fs ts os t l a r w ∙ sym (ap (λ x. x .lookups) e)) (variables-told u fs ts os t l a r w ∙ sym (ap (λ x. x .variables) e))) (r w)
+unfolding countedTold acceptedAs
+counted-ready u fs ts os t seen l a e r = record {
+  tabled = λ w.
+      subst (λ x. (k : ℕ) → k < 4 → TabledSort u (taleSaid l) fs ts os x k)
+      (ap₂ (λ x y. record { whole = t .whole; commands = t .commands; lookups = x; variables = y; nodes = t .nodes }) (lookups-told u fs ts os t l a r w ∙ sym (ap (λ x. x .lookups) e)) (variables-told u fs ts os t l a r w ∙ sym (ap (λ x. x .variables) e))) (r .tabled w);
+  tape = r .tape;
+}
 
 -- the header and the lookups
 laid-first : (whole : Draft) (image after : List ℕ) → Limited whole → length image ≡ mostBytes → Holds image 0 (headOf whole) → after ≡ put image (lookupsAt whole) (join (allLookups (whole .lookups))) → Laid whole [] [] [] after
@@ -126,7 +130,7 @@ root-opens u whole c image x a =
 
 -- ---- all sections
 pub made-all : {A B : Type 0} (u fs ts os zero′ kind kind′ : List ℕ) (told : Told) (base vbase lbase : ℕ) (c : Cursor) (r : Course) (image image′ after : List ℕ) (l : List (Said Saying))
-    → ((l : List (Said Saying)) → length zero′ ≡ 704 → Accepted u l → Kinded (draftOf l) zero′ kind) → Declares u lbase image kind c image′ kind′
+    → ((l : List (Said Saying)) → length zero′ ≡ 704 → Accepted u l → Tape u os → Kinded (draftOf l) zero′ kind) → Declares u os lbase image kind c image′ kind′
     → ReadsNodeBy A B u (tables fs ts os kind′ told) base vbase 65535 (length u) (record { at = c; nodes = 0; entries = 0; variables = 0 }) image′ r after → A
     → length zero′ ≡ 704 → ((i : ℕ) → i < 320 → getD zero′ i 0 ≡ 0)
     → Accepted u l → Limited (draftOf l) → Ready u (taleSaid l) fs ts os told → told .lookups ≡ length (draftOf l .lookups) → told .variables ≡ length (draftOf l .variables)
@@ -134,8 +138,8 @@ pub made-all : {A B : Type 0} (u fs ts os zero′ kind kind′ : List ℕ) (told
     → Laid (draftOf l) (draftOf l .nodes) (draftOf l .entries) (draftOf l .variables) after
 unfolding hearAll
 made-all u fs ts os zero′ kind kind′ told base vbase lbase c r image image′ after l kinds declares reads many size zeros a f ready e g b v p room head =
-    let k = kinds l size a in
-    let d = declares (draftOf l) (planned u l a) (f .lookups) (omega (arith, f .nodes, f .entries, f .variables)) room (k .size) (λ i h. k .kept i h ∙ zeros i h) in
+    let k = kinds l size a (ready .tape) in
+    let d = declares (draftOf l) (planned u l a) (ready .tape) (f .lookups) (omega (arith, f .nodes, f .entries, f .variables)) room (k .size) (λ i h. k .kept i h ∙ zeros i h) in
     let first = laid-first (draftOf l) image image′ f room head (d .1 .bytes ∙ ap (λ n. put image n (join (allLookups (draftOf l .lookups)))) p) in
     let site : Site u (draftOf l) (tables fs ts os kind′ told) base vbase = record { known = known-all u fs ts os zero′ kind image kind′ told l lbase image′ a f ready e g k (d .1); limited = f; rested = nothing-pending u l (a .says); entries = b; variables = v } in
     let done = reads (draftOf l) [] (length u) [] many site (omega arith) (omega arith) (root-opens u (draftOf l) c image′ (d .0) first) in

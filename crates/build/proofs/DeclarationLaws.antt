@@ -17,7 +17,8 @@ use Rattle.notation.specs.Hearing.{_▸_, atLast, hear, hearAll}
 use Rattle.notation.specs.Mapping.{kindCode}
 use Rattle.notation.proofs.OwnedHeard.{at-last}
 use Rattle.recognise.specs.declared.Cursor.{Cursor}
-use Rattle.recognise.specs.Hears.{piece, Begun}
+use Rattle.recognise.specs.Hears.{piece}
+use Rattle.recognise.specs.Tape.{Tape, Begun}
 use Rattle.build.specs.Flow as Flow
 use Rattle.build.specs.Flow.{codeOf, ofKind}
 use Rattle.build.specs.Hearsay.{Apt, Hears, Heard}
@@ -154,10 +155,10 @@ module _ (u : List ℕ) (whole : Draft) (base : ℕ) (under old : List ℕ) wher
         recorded = f;
       }
 
-  pub begins : (c r : Cursor) → Planned u whole → length old ≡ 704 → ((i : ℕ) → i < 320 → getD old i 0 ≡ 0) → Begun c → Stepped u c r → Declaring u whole base under old 0 r 0 0 under old
+  pub begins : (os : List ℕ) (c r : Cursor) → Planned u whole → length old ≡ 704 → ((i : ℕ) → i < 320 → getD old i 0 ≡ 0) → Begun os c → Tape u os → Stepped u c r → Declaring u whole base under old 0 r 0 0 under old
   unfolding Begun
-  begins c r p size zeros b st =
-      next-heard 0 0 0 c r under old (spoken (p .said)) [] [] [] (p .plan) (record { ahead = b u (p .said) (p .says); apt = p .apt }) st (p .leads) (omega (arith, p .short)) refl refl (none-recorded base under old size zeros)
+  begins os c r p size zeros b k st =
+      next-heard 0 0 0 c r under old (spoken (p .said)) [] [] [] (p .plan) (record { ahead = b u (p .said) (p .says) k; apt = p .apt }) st (p .leads) (omega (arith, p .short)) refl refl (none-recorded base under old size zeros)
 
   module _ (turns commands lookups : ℕ) (c : Cursor) (image kind : List ℕ) (t : Declaring u whole base under old turns c commands lookups image kind) where
     pub lookup-declared : (k now told : ℕ) (q r : Cursor) (image′ kind′ image″ kind″ : List ℕ) → length (whole .lookups) ≤ 64 → base ≤ 40980 → length under ≡ 41108 → 2 < c .says → c .says ≤ 5 → k ≡ c .says - 3

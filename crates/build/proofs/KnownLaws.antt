@@ -15,6 +15,7 @@ use Rattle.notation.specs.Mapping.{numberOf, kindOfVariable, kindOfLookup, numb
 use Rattle.names.specs.declared.answers.NameFound.{NameFound}
 use Rattle.names.specs.Answers.{Accepted, taleSaid, foundOf}
 use Rattle.names.specs.Tables.{Ready}
+use Rattle.recognise.specs.Tape.{Tape}
 use Rattle.build.specs.Known.{Tables, Known, StandsAt}
 
 pub place-is : (r : NameFound) (f : Found) → r ≡ foundOf f → r .place ≡ numberOf f
@@ -63,7 +64,7 @@ module _ (u : List ℕ) (d : Draft) (t : Tables) (k : Known u d t) (r : NameFoun
     pub means-command : r .place < 256 → w ≡ getD (t .kind) (r .place) 0 → w ≡ numberOfCommand (d .commands) (numberOf (commandOf d x))
     means-command few e = e ∙ k .commandNumbers (r .place) few ∙ ap (numberOfCommand (d .commands)) (told-of (λ y. commandOf y x) h)
 
-    pub means-later : ((l : List (Said Saying)) → Accepted u l → w ≡ numberOfCommand (draftOf l .commands) (r .place)) → w ≡ numberOfCommand (d .commands) (numberOf (commandOf d x))
+    pub means-later : ((l : List (Said Saying)) → Accepted u l → Tape u (t .owner) → w ≡ numberOfCommand (draftOf l .commands) (r .place)) → w ≡ numberOfCommand (d .commands) (numberOf (commandOf d x))
     means-later f =
-        f (k .said) (k .accepted) ∙ ap (λ (y : Draft). numberOfCommand (y .commands) (r .place)) (k .draft)
+        f (k .said) (k .accepted) (k .ready .tape) ∙ ap (λ (y : Draft). numberOfCommand (y .commands) (r .place)) (k .draft)
         ∙ ap (numberOfCommand (d .commands)) (told-of (λ y. commandOf y x) h)

@@ -16,6 +16,7 @@ use Rattle.notation.specs.Hearing.{hearAll, _▸_}
 use Rattle.notation.specs.Mapping.{kindCode, kindOfLookup, numberOfCommand, allLookups}
 use Rattle.notation.specs.Reading.{planSays}
 use Rattle.recognise.specs.declared.Cursor.{Cursor}
+use Rattle.recognise.specs.Tape.{Tape}
 use Rattle.build.specs.Flow.{codeOf}
 use Rattle.build.specs.Hearsay.{AllApt, Hears, Heard}
 use Rattle.build.specs.Standing.{mostBytes}
@@ -66,7 +67,7 @@ Records base i k image kind image′ kind′ =
     → k ≡ kindCode (l .kind) → Recorded base under old image′ kind′ cs (ls ▸ l)
 
 -- all declarations are read
-abbrev pub Declares : List ℕ → ℕ → List ℕ → List ℕ → Cursor → List ℕ → List ℕ → Type 0
-Declares u base image kind r image′ kind′ =
-    (whole : Draft) → Planned u whole → length (whole .lookups) ≤ 64 → base ≤ 40980 → length image ≡ mostBytes → length kind ≡ 704 → ((i : ℕ) → i < 320 → getD kind i 0 ≡ 0)
+abbrev pub Declares : List ℕ → List ℕ → ℕ → List ℕ → List ℕ → Cursor → List ℕ → List ℕ → Type 0
+Declares u os base image kind r image′ kind′ =
+    (whole : Draft) → Planned u whole → Tape u os → length (whole .lookups) ≤ 64 → base ≤ 40980 → length image ≡ mostBytes → length kind ≡ 704 → ((i : ℕ) → i < 320 → getD kind i 0 ≡ 0)
     → Rooted u whole r × Recorded base image kind image′ kind′ (whole .commands) (whole .lookups)

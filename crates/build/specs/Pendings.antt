@@ -9,6 +9,7 @@ use Rattle.notation.specs.Sayings.{Operator}
 use Rattle.notation.specs.Draft.{Pending, prefix, paren, infix′}
 use Rattle.notation.specs.Hearing.{strength}
 use Rattle.recognise.specs.declared.Cursor.{Cursor}
+use Rattle.recognise.specs.Tape.{Tape}
 use Rattle.build.specs.Flow.{binding, ofOperator}
 use Rattle.build.specs.Known.{Tables, Known}
 use Rattle.build.specs.Standing.{Scene, Fair, parens}
@@ -104,9 +105,9 @@ abbrev pub IsHeld : List ℕ → ℕ → ℕ → Bool → Type 0
 IsHeld a t k r = t ≤ 2048 → (r ≡ true → 0 < t → Held a k t) × (r ≡ false → (getD a (3 * t + 2) 0 ≡ 0) × (w : ℕ) × Weighs (getD a (3 * t) 0 % 256) w × (k ≤ w))
 
 -- parentheses and NOTs before an operand are passed
-abbrev pub Prefixes : List ℕ → ℕ → ℕ → Cursor → List ℕ → Cursor → ℕ → List ℕ → Type 0
-Prefixes u left top c a r up b =
-    (s : Scene) (node base size count : ℕ) (image : List ℕ) → length a ≡ places → Fair s node base → s .whole .pending ≡ [] → size ≤ left → DueBy u s base a top size c count image
+abbrev pub Prefixes : List ℕ → List ℕ → ℕ → ℕ → Cursor → List ℕ → Cursor → ℕ → List ℕ → Type 0
+Prefixes u os left top c a r up b =
+    Tape u os → (s : Scene) (node base size count : ℕ) (image : List ℕ) → length a ≡ places → Fair s node base → s .whole .pending ≡ [] → size ≤ left → DueBy u s base a top size c count image
     → MetBy u s base b up size r count image × (r .says ≡ 91 → ⊥) × (r .says ≡ 79 → ⊥) × (length b ≡ places)
 
 -- the operators that bind at least as strongly as k end
@@ -116,9 +117,9 @@ Unwinds base a top n k image up m after =
     → PastBy u s base a up size c m after × Held a k up × (n ≤ m)
 
 -- after an operand: what is said next ends what it ends, and parentheses close
-abbrev pub Follows : List ℕ → ℕ → ℕ → ℕ → Cursor → ℕ → List ℕ → List ℕ → Cursor → ℕ → ℕ → List ℕ → List ℕ → Type 0
-Follows u base left top c n a image r up m b after =
-    (s : Scene) (node size : ℕ) → length a ≡ places → Fair s node base → s .whole .pending ≡ [] → size ≤ left → PastBy u s base a top size c n image
+abbrev pub Follows : List ℕ → List ℕ → ℕ → ℕ → ℕ → Cursor → ℕ → List ℕ → List ℕ → Cursor → ℕ → ℕ → List ℕ → List ℕ → Type 0
+Follows u os base left top c n a image r up m b after =
+    Tape u os → (s : Scene) (node size : ℕ) → length a ≡ places → Fair s node base → s .whole .pending ≡ [] → size ≤ left → PastBy u s base a top size c n image
     → PastBy u s base b up size r m after × (r .says ≡ 92 → ⊥) × (k : ℕ) × Binds (r .says) k × Held b k up × (n ≤ m) × (length b ≡ places)
 
 -- an expression is read to its end; A is asked of the array, and B holds of it then

@@ -28,7 +28,7 @@ pub fn expression<'a>(
     text: &'a [u8],
     from: &'a [usize; 704],
     to: &'a [usize; 704],
-    owner: &'a [usize; 704],
+    owner: &'a [usize; 10525],
     kind: &'a [usize; 704],
     told: Told,
     image: &mut [u8; 41108],
@@ -88,7 +88,7 @@ fn attribute<'a>(
     text: &'a [u8],
     from: &'a [usize; 704],
     to: &'a [usize; 704],
-    owner: &'a [usize; 704],
+    owner: &'a [usize; 10525],
     kind: &'a [usize; 704],
     told: Told,
     image: &mut [u8; 41108],
@@ -123,13 +123,13 @@ fn attribute<'a>(
         );
         given[(says - 12) as usize] = last(e.entries);
         return Described {
-            at: next(text, e.at),
+            at: next(text, owner, e.at),
             entries: e.entries,
             variables: a.variables,
             priority: a.priority,
         };
     }
-    let then = next(text, at);
+    let then = next(text, owner, at);
     if says == 19 {
         return Described {
             at: then,
@@ -160,7 +160,7 @@ pub fn attributes<'a>(
     text: &'a [u8],
     from: &'a [usize; 704],
     to: &'a [usize; 704],
-    owner: &'a [usize; 704],
+    owner: &'a [usize; 10525],
     kind: &'a [usize; 704],
     told: Told,
     image: &mut [u8; 41108],
@@ -175,7 +175,7 @@ pub fn attributes<'a>(
 {
     let node = c.nodes;
     let mut a = Described {
-        at: next(text, c.at),
+        at: next(text, owner, c.at),
         entries: c.entries,
         variables: c.variables,
         priority: 0,

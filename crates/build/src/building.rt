@@ -28,7 +28,7 @@ fn sections<'a>(
     text: &'a [u8],
     from: &'a [usize; 704],
     to: &'a [usize; 704],
-    owner: &'a [usize; 704],
+    owner: &'a [usize; 10525],
     told: Told,
     base: usize,
     vbase: usize,
@@ -39,8 +39,8 @@ fn sections<'a>(
 {
     let mut kind = [0usize; 704];
     let mut pending = [0usize; 6147];
-    fill_kinds(text, &mut kind);
-    let at = declarations(text, image, &mut kind, lbase);
+    fill_kinds(text, owner, &mut kind);
+    let at = declarations(text, owner, image, &mut kind, lbase);
     let start = Course {
         at: at,
         nodes: 0,
@@ -69,7 +69,7 @@ pub fn build<'a>(
     text: &'a [u8],
     from: &'a [usize; 704],
     to: &'a [usize; 704],
-    owner: &'a [usize; 704],
+    owner: &'a [usize; 10525],
     told: Told,
     seen: Recognised,
     image: &mut [u8; 41108],

@@ -35,15 +35,16 @@ fn lookup(image: &mut [u8; 41108], kind: &mut [usize; 704], base: usize, i: usiz
 }
 
 // From the beginning of the text to the opening of the plan's node.
-pub(crate) fn declarations(
-    text: &[u8],
+pub(crate) fn declarations<'a>(
+    text: &'a [u8],
+    owner: &'a [usize; 10525],
     image: &mut [u8; 41108],
     kind: &mut [usize; 704],
     base: usize,
 ) -> Cursor
-    ensures { λ r. ⌜ Declares (now (text .entry)) base (now (image .entry)) (now (kind .entry)) r (now (image .exit)) (now (kind .exit)) ⌝ }
+    ensures { λ r. ⌜ Declares (now (text .entry)) (now (owner .entry)) base (now (image .entry)) (now (kind .entry)) r (now (image .exit)) (now (kind .exit)) ⌝ }
 {
-    let mut at = next(text, recognise::begin());
+    let mut at = next(text, owner, recognise::begin(owner));
     let mut commands: usize = 0;
     let mut lookups: usize = 0;
     let mut turns: usize = 0;
@@ -56,11 +57,11 @@ pub(crate) fn declarations(
             lookup(image, kind, base, lookups, says - 3);
             lookups += 1;
         } else {
-            at = next(text, at);
+            at = next(text, owner, at);
             number(text, kind, commands, at);
             commands += 1;
         }
-        at = next(text, at);
+        at = next(text, owner, at);
         turns += 1;
     }
     at

@@ -16,7 +16,7 @@ pub fn boolean<'a>(
     text: &'a [u8],
     from: &'a [usize; 704],
     to: &'a [usize; 704],
-    owner: &'a [usize; 704],
+    owner: &'a [usize; 10525],
     kind: &'a [usize; 704],
     told: Told,
     image: &mut [u8; 41108],
@@ -37,7 +37,7 @@ pub fn boolean<'a>(
     };
     let mut turns: usize = 0;
     while turns < left {
-        let o = prefixes(text, pending, s.top, s.at, left);
+        let o = prefixes(text, owner, pending, s.top, s.at, left);
         let first = o.at;
         let p = numeric(
             text,
@@ -59,7 +59,7 @@ pub fn boolean<'a>(
             top: o.top,
             entries: p.entries,
         };
-        let f = follow(text, image, base, pending, read, left);
+        let f = follow(text, owner, image, base, pending, read, left);
         let at = f.at;
         if at.says > 90 {
             return Progress {

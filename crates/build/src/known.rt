@@ -37,7 +37,7 @@ pub fn variable<'a>(
     text: &'a [u8],
     from: &'a [usize; 704],
     to: &'a [usize; 704],
-    owner: &'a [usize; 704],
+    owner: &'a [usize; 10525],
     kind: &'a [usize; 704],
     told: Told,
     n: usize,
@@ -66,7 +66,7 @@ pub fn lookup<'a>(
     text: &'a [u8],
     from: &'a [usize; 704],
     to: &'a [usize; 704],
-    owner: &'a [usize; 704],
+    owner: &'a [usize; 10525],
     kind: &'a [usize; 704],
     told: Told,
     at: Cursor,
@@ -94,7 +94,7 @@ pub fn command<'a>(
     text: &'a [u8],
     from: &'a [usize; 704],
     to: &'a [usize; 704],
-    owner: &'a [usize; 704],
+    owner: &'a [usize; 10525],
     kind: &'a [usize; 704],
     told: Told,
     at: Cursor,
@@ -114,5 +114,5 @@ pub fn command<'a>(
     if i < 256 {
         return kind[i];
     }
-    command_number(text, i)
+    command_number(text, owner, i)
 }

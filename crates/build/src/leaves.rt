@@ -20,7 +20,7 @@ fn question<'a>(
     text: &'a [u8],
     from: &'a [usize; 704],
     to: &'a [usize; 704],
-    owner: &'a [usize; 704],
+    owner: &'a [usize; 10525],
     kind: &'a [usize; 704],
     told: Told,
     image: &mut [u8; 41108],
@@ -46,7 +46,7 @@ fn question<'a>(
         ask_code(says),
         0,
     );
-    let end = next(text, ask);
+    let end = next(text, owner, ask);
     if ask_not(says) == 0 {
         return Progress {
             at: end,
@@ -65,7 +65,7 @@ fn variable_entry<'a>(
     text: &'a [u8],
     from: &'a [usize; 704],
     to: &'a [usize; 704],
-    owner: &'a [usize; 704],
+    owner: &'a [usize; 10525],
     kind: &'a [usize; 704],
     told: Told,
     image: &mut [u8; 41108],
@@ -85,7 +85,7 @@ fn lookup_entry<'a>(
     text: &'a [u8],
     from: &'a [usize; 704],
     to: &'a [usize; 704],
-    owner: &'a [usize; 704],
+    owner: &'a [usize; 10525],
     kind: &'a [usize; 704],
     told: Told,
     image: &mut [u8; 41108],
@@ -104,7 +104,7 @@ pub fn numeric<'a>(
     text: &'a [u8],
     from: &'a [usize; 704],
     to: &'a [usize; 704],
-    owner: &'a [usize; 704],
+    owner: &'a [usize; 10525],
     kind: &'a [usize; 704],
     told: Told,
     image: &mut [u8; 41108],
@@ -116,7 +116,7 @@ pub fn numeric<'a>(
 ) -> Progress
     ensures { λ r. ⌜ Leaves (now (text .entry)) (tables (now (from .entry)) (now (to .entry)) (now (owner .entry)) (now (kind .entry)) told) node base left at count (now (image .entry)) (r .at) (r .entries) (now (image .exit)) ⌝ }
 {
-    let after = next(text, at);
+    let after = next(text, owner, at);
     if at.says < 42 {
         let n = literal(text, image, base, at, count);
         return Progress {

@@ -27,7 +27,7 @@ fn task<'a>(
     text: &'a [u8],
     from: &'a [usize; 704],
     to: &'a [usize; 704],
-    owner: &'a [usize; 704],
+    owner: &'a [usize; 10525],
     kind: &'a [usize; 704],
     told: Told,
     image: &mut [u8; 41108],
@@ -92,7 +92,7 @@ pub fn node<'a>(
     text: &'a [u8],
     from: &'a [usize; 704],
     to: &'a [usize; 704],
-    owner: &'a [usize; 704],
+    owner: &'a [usize; 10525],
     kind: &'a [usize; 704],
     told: Told,
     image: &mut [u8; 41108],
@@ -173,7 +173,7 @@ pub fn list<'a>(
     text: &'a [u8],
     from: &'a [usize; 704],
     to: &'a [usize; 704],
-    owner: &'a [usize; 704],
+    owner: &'a [usize; 10525],
     kind: &'a [usize; 704],
     told: Told,
     image: &mut [u8; 41108],
@@ -189,7 +189,7 @@ pub fn list<'a>(
     let mut s = c;
     let mut turns: usize = 0;
     while turns < left {
-        let at = next(text, s.at);
+        let at = next(text, owner, s.at);
         let heard = Course {
             at: at,
             nodes: s.nodes,

@@ -20,7 +20,7 @@ fn first_part<'a>(
     text: &'a [u8],
     from: &'a [usize; 704],
     to: &'a [usize; 704],
-    owner: &'a [usize; 704],
+    owner: &'a [usize; 10525],
     kind: &'a [usize; 704],
     told: Told,
     n: usize,
@@ -56,7 +56,7 @@ fn part<'a>(
     text: &'a [u8],
     from: &'a [usize; 704],
     to: &'a [usize; 704],
-    owner: &'a [usize; 704],
+    owner: &'a [usize; 10525],
     kind: &'a [usize; 704],
     told: Told,
     m: NameFound,
@@ -84,7 +84,7 @@ pub fn walk<'a>(
     text: &'a [u8],
     from: &'a [usize; 704],
     to: &'a [usize; 704],
-    owner: &'a [usize; 704],
+    owner: &'a [usize; 10525],
     kind: &'a [usize; 704],
     told: Told,
     node: usize,
@@ -105,7 +105,7 @@ pub fn walk<'a>(
             };
         }
         found = part(text, from, to, owner, kind, told, found, to_ask);
-        to_ask = next(text, to_ask);
+        to_ask = next(text, owner, to_ask);
         turns += 1;
     }
     Question {

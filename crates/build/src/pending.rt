@@ -104,16 +104,17 @@ fn keep(pending: &mut [usize; 6147], top: usize, says: u8) -> usize
 }
 
 // Past the parentheses and NOTs before an operand, at most `left`.
-pub fn prefixes(
-    text: &[u8],
+pub fn prefixes<'a>(
+    text: &'a [u8],
+    owner: &'a [usize; 10525],
     pending: &mut [usize; 6147],
     top: usize,
     c: Cursor,
     left: usize,
 ) -> Stand
-    ensures { λ r. ⌜ Prefixes (now (text .entry)) left top c (now (pending .entry)) (r .at) (r .top) (now (pending .exit)) ⌝ }
+    ensures { λ r. ⌜ Prefixes (now (text .entry)) (now (owner .entry)) left top c (now (pending .entry)) (r .at) (r .top) (now (pending .exit)) ⌝ }
 {
-    let mut at = next(text, c);
+    let mut at = next(text, owner, c);
     let mut up = top;
     let mut turns: usize = 0;
     while turns < left {
@@ -126,7 +127,7 @@ pub fn prefixes(
             };
         }
         up = keep(pending, up, says);
-        at = next(text, at);
+        at = next(text, owner, at);
         turns += 1;
     }
     Stand {
@@ -191,15 +192,16 @@ fn unwind(
 }
 
 // After an operand: what is said next ends the operators that it ends, and parentheses close, at most `left`.
-pub fn follow(
-    text: &[u8],
+pub fn follow<'a>(
+    text: &'a [u8],
+    owner: &'a [usize; 10525],
     image: &mut [u8; 41108],
     base: usize,
     pending: &mut [usize; 6147],
     s: Stand,
     left: usize,
 ) -> Stand
-    ensures { λ r. ⌜ Follows (now (text .entry)) base left (s .top) (s .at) (s .entries) (now (pending .entry)) (now (image .entry)) (r .at) (r .top) (r .entries) (now (pending .exit)) (now (image .exit)) ⌝ }
+    ensures { λ r. ⌜ Follows (now (text .entry)) (now (owner .entry)) base left (s .top) (s .at) (s .entries) (now (pending .entry)) (now (image .entry)) (r .at) (r .top) (r .entries) (now (pending .exit)) (now (image .exit)) ⌝ }
 {
     let mut at = s.at;
     let mut top = s.top;
@@ -217,7 +219,7 @@ pub fn follow(
             };
         }
         lower(pending, top);
-        at = next(text, at);
+        at = next(text, owner, at);
         turns += 1;
     }
     Stand {

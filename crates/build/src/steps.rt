@@ -1,5 +1,6 @@
 // From one saying to the next.
 use recognise::Cursor;
+ghost use Rattle.recognise.specs.Tape.{Tape};
 ghost use Rattle.build.specs.Steps.{Stepped};
 
 // Where a reader of expressions stands, and how many entries there are.
@@ -9,8 +10,8 @@ pub struct Progress {
 }
 
 // To the next saying.
-pub fn next(text: &[u8], c: Cursor) -> Cursor
-    ensures { λ r. ⌜ Stepped (now (text .entry)) c r ⌝ }
+pub fn next<'a>(text: &'a [u8], owner: &'a [usize; 10525], c: Cursor) -> Cursor
+    ensures { λ r. ⌜ (Tape (now (text .entry)) (now (owner .entry)) → Stepped (now (text .entry)) c r) ⌝ }
 {
-    recognise::advance(text, c)
+    recognise::next(text, owner, c)
 }

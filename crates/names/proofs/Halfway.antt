@@ -9,6 +9,7 @@ use Rattle.grammar.specs.Table.{Said}
 use Rattle.notation.specs.Sayings.{Saying}
 use Rattle.notation.specs.Spoken.{spoken}
 use Rattle.notation.specs.Hearing.{draftOf}
+use Rattle.recognise.specs.Tape.{Tape}
 use Rattle.recognise.specs.Aptness.{Apt, AllApt}
 use Rattle.recognise.proofs.Aptness.{all-apt}
 use Rattle.names.specs.declared.walk.Walk.{Walk}
@@ -70,7 +71,7 @@ shallow-said u l a =
     let t = told u l (a .says) in
     subst (λ (b : Tale). Shallow (b .levels)) (t .view) (shallow (draftOf l .nodes) (a .levels))
 
-module _ {P : Tale → Standing → Type 0} (u ls ls′ : List ℕ) (w r : Walk) (g : Walked u ls w ls′ r) (l : List (Said Saying)) (a : Accepted u l) where
+module _ {P : Tale → Standing → Type 0} (u os ls ls′ : List ℕ) (w r : Walk) (g : Walked u os ls w ls′ r) (l : List (Said Saying)) (a : Accepted u l) (tape : Tape u os) where
   -- where the walk is over, all has been told
   pub all-told : r .role ≡ 16 → Halfway u ls w l P → (q : Standing) × P (taleSaid l) q
   unfolding tellAll
@@ -80,7 +81,7 @@ module _ {P : Tale → Standing → Type 0} (u ls ls′ : List ℕ) (w r : Walk)
       onto b q [] f v p = (q, subst (λ (b : Tale). P b q) v p)
       onto b q (x ∷ k) f v p =
           let s : Shallow (tell x b .levels) = shallow-told k (tell x b) (rw v (shallow-said u l a)) in
-          let z : roleNumber (roleOf (x .what)) ≡ 16 = sym (g .more x k b q f s .0 .role) ∙ e in
+          let z : roleNumber (roleOf (x .what)) ≡ 16 = sym (g .more tape x k b q f s .0 .role) ∙ e in
           absurd (let y : roleNumber (roleOf (x .what)) < 16 = role-below (roleOf (x .what)) in omega arith)
 
   pub newly : (r .role ≡ 16 → ⊥) → Halfway u ls w l P → Newly u ls′ r l P
@@ -91,13 +92,13 @@ module _ {P : Tale → Standing → Type 0} (u ls ls′ : List ℕ) (w r : Walk)
       onto b q [] f y v p = absurd (e (g .done b q f))
       onto b q (x ∷ k) f y v p =
           let s : Shallow (tell x b .levels) = shallow-told k (tell x b) (rw v (shallow-said u l a)) in
-          let m = g .more x k b q f s in
+          let m = g .more tape x k b q f s in
           record { tale = b; standing = q; known = p; said = x; asked = y .0; tells = m .0; next = m .1 .0; goes = m .1 .1; rest = k; follows = m .1 .2; apt = y .1; whole = v }
 
 -- at the beginning nothing has been told
-pub halfway-start : {P : Tale → Standing → Type 0} (u ls : List ℕ) (w : Walk) → Started w → length ls ≡ 16 → (l : List (Said Saying)) → Accepted u l → P untold declaring → Halfway u ls w l P
+pub halfway-start : {P : Tale → Standing → Type 0} (u os ls : List ℕ) (w : Walk) → Started os w → length ls ≡ 16 → (l : List (Said Saying)) → Accepted u l → Tape u os → P untold declaring → Halfway u ls w l P
 unfolding taleOf
-halfway-start u ls w s n l a p = record { tale = untold; standing = declaring; rest = spoken l; follows = s .follows u ls l n (a .says); apt = all-apt u l (a .says); whole = refl; known = p }
+halfway-start u os ls w s n l a k p = record { tale = untold; standing = declaring; rest = spoken l; follows = s .follows u ls l n (a .says) k; apt = all-apt u l (a .says); whole = refl; known = p }
 
 -- on to the next turn
 pub onwards : {P Q : Tale → Standing → Type 0} {u ls : List ℕ} {r : Walk} {l : List (Said Saying)} (n : Newly u ls r l P) → Q (tell (n .said) (n .tale)) (n .next) → Halfway u ls r l Q

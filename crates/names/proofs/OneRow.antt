@@ -96,7 +96,7 @@ pub nothing-rowed : (u fs ts os : List ℕ) → Rowed u fs ts os noneTold untold
 unfolding Tables.opened listOf
 nothing-rowed u fs ts os k h = fourfold (TabledSort u untold fs ts os noneTold) (record { room = omega arith; fair = tt; same = refl }) (record { room = omega arith; fair = tt; same = refl }) (record { room = omega arith; fair = tt; same = refl }) (record { room = omega arith; fair = tt; same = refl }) k h
 
-module _ (u fs ts os : List ℕ) (t : Told) (b b′ : Tale) (s a e o : ℕ) (h : s < 4) (lf : length fs ≡ 704) (lt : length ts ≡ 704) (lo : length os ≡ 704) (r : countOf t s < roomOf s) (v : a ≤ e) (w : e ≤ length u) where
+module _ (u fs ts os : List ℕ) (t : Told) (b b′ : Tale) (s a e o : ℕ) (h : s < 4) (lf : length fs ≡ 704) (lt : length ts ≡ 704) (lo : length os ≡ 10525) (r : countOf t s < roomOf s) (v : a ≤ e) (w : e ≤ length u) where
   abbrev place : ℕ
   place = baseOf s + countOf t s
 
@@ -129,7 +129,7 @@ module _ (u fs ts os : List ℕ) (t : Told) (b b′ : Tale) (s a e o : ℕ) (h :
       onto false z = put-other k g (eqb-false k s z) (c k g) (m k g (eqb-false k s z))
 
 module _ {u ls fs ts os : List ℕ} {t : Told} {w : Walk} {l : List (Said Saying)} (n : Newly u ls w l (Rowed u fs ts os t)) where
-  pub filled-on : (s : ℕ) → s < 4 → sortNo (w .role) ≡ s → length fs ≡ 704 → length ts ≡ 704 → length os ≡ 704 → countOf t s < roomOf s → w .from ≤ w .to → w .to ≤ length u →
+  pub filled-on : (s : ℕ) → s < 4 → sortNo (w .role) ≡ s → length fs ≡ 704 → length ts ≡ 704 → length os ≡ 10525 → countOf t s < roomOf s → w .from ≤ w .to → w .to ≤ length u →
       Rowed u (set fs (baseOf s + countOf t s) (w .from)) (set ts (baseOf s + countOf t s) (w .to)) (set os (baseOf s + countOf t s) (w .owner)) (moreOf t s) (tell (n .said) (n .tale)) (n .next)
   filled-on s h e lf lt lo r v x = put-row u fs ts os t (n .tale) (tell (n .said) (n .tale)) s (w .from) (w .to) (w .owner) h lf lt lo r v x (n .known) (told-one n s h e) (λ k g z. told-none n k g (λ y. z (sym y ∙ e)))
 

@@ -20,8 +20,7 @@ use Rattle.names.proofs.SearchNode.{no-node}
 
 module _ (u : List ℕ) (b : Tale) (fs ts os : List ℕ) (t : Told) (w : t .whole ≡ true) (r : Ready u b fs ts os t) where
   node-rows : TabledSort u b fs ts os t 3
-  unfolding Ready
-  node-rows = r w 3 (omega arith)
+  node-rows = r .tabled w 3 (omega arith)
 
   nodes-are : rows u fs ts os 448 (t .nodes) ≡ b .nodes
   unfolding Tables.opened listOf
@@ -45,16 +44,14 @@ module _ (u : List ℕ) (b : Tale) (fs ts os : List ℕ) (t : Told) (w : t .whol
 
   -- the rows of a sort are searched as its declarations are
   pub quick-find : (k : ℕ) → k < 4 → (m : ℕ) (x : Token) → findFrom 0 (isCalled m x) (rows u fs ts os (baseOf k) (countOf t k)) ≡ seek k m x b
-  unfolding Ready seek find
-  quick-find k h m x = rw (r w k h .same)
+  unfolding seek find
+  quick-find k h m x = rw (r .tabled w k h .same)
 
   pub quick-fair : (k : ℕ) → k < 4 → Fair u fs ts (baseOf k) (countOf t k)
-  unfolding Ready
-  quick-fair k h = r w k h .fair
+  quick-fair k h = r .tabled w k h .fair
 
   pub quick-room : (k : ℕ) → k < 4 → countOf t k ≤ roomOf k
-  unfolding Ready
-  quick-room k h = r w k h .room
+  quick-room k h = r .tabled w k h .room
 
 -- the rows of a sort lie in the arrays
 pub sort-lies : (k : ℕ) → baseOf k + roomOf k ≤ 704

@@ -12,7 +12,8 @@ use Rattle.notation.specs.Sayings.{Saying, silence}
 use Rattle.recognise.specs.declared.Cursor.{Cursor}
 use Rattle.recognise.specs.Codes as Codes
 use Rattle.recognise.specs.Codes.{sayOf}
-use Rattle.recognise.specs.Hears.{Heard, Advanced, Begun}
+use Rattle.recognise.specs.Hears.{Heard}
+use Rattle.recognise.specs.Tape.{Tape, Advanced, Begun}
 use Rattle.names.specs.declared.walk.Walk.{Walk}
 use Rattle.names.specs.Roles.{roleOf, roleNumber, detailOf}
 use Rattle.names.specs.Tale.{Tale, tell}
@@ -44,13 +45,13 @@ length-lists ls k n m e = onto (eqb k 5) (ltb m 16)
     onto true false = e
     onto false t = e
 
-module _ (u ls : List ℕ) (w : Walk) (d : Cursor) (g : Advanced u (w .cursor) d) where
+module _ (u os ls : List ℕ) (w : Walk) (d : Cursor) (g : Advanced u os (w .cursor) d) where
   -- no saying was heard
-  pub stopped : Bounded w → (d .at ≤ w .cursor .at) ⊎ (d .says ≡ 94) → Walked u ls w ls (endedOf w)
+  pub stopped : Bounded w → (d .at ≤ w .cursor .at) ⊎ (d .says ≡ 94) → Walked u os ls w ls (endedOf w)
   unfolding endedOf
   stopped v s =
       record {
-        more = λ x l b q f h. absurd (never x l b q f s);
+        more = λ k x l b q f h. absurd (never k x l b q f s);
         done = λ b q f. refl;
         onward = inl refl;
         bounded = record { place = v .place; nodes = omega arith; depth = omega arith };
@@ -58,18 +59,18 @@ module _ (u ls : List ℕ) (w : Walk) (d : Cursor) (g : Advanced u (w .cursor) d
         within = omega arith;
       }
     where
-      never : (x : Said Saying) (l : List (Said Saying)) (b : Tale) (q : Standing) → Follows u ls w b q (x ∷ l) → (d .at ≤ w .cursor .at) ⊎ (d .says ≡ 94) → ⊥
-      never x l b q f (inl e) = let z : w .cursor .at < d .at = g .more x l (f .hears) .2 in omega arith
-      never x l b q f (inr e) = elim (f .orderly) [ onward h i o ↦ not-silent (x .what) h (sym (g .more x l (f .hears) .0 .what) ∙ ap sayOf e ∙ silence-heard) ]
+      never : Tape u os → (x : Said Saying) (l : List (Said Saying)) (b : Tale) (q : Standing) → Follows u ls w b q (x ∷ l) → (d .at ≤ w .cursor .at) ⊎ (d .says ≡ 94) → ⊥
+      never k x l b q f (inl e) = let z : w .cursor .at < d .at = g .more k x l (f .hears) .2 in omega arith
+      never k x l b q f (inr e) = elim (f .orderly) [ onward h i o ↦ not-silent (x .what) h (sym (g .more k x l (f .hears) .0 .what) ∙ ap sayOf e ∙ silence-heard) ]
 
   -- a saying was heard
   abbrev roleHeard : ℕ
   roleHeard = roleNumber (roleOf (sayOf (d .says)))
 
-  tells : (x : Said Saying) (l : List (Said Saying)) (b : Tale) (q : Standing) → Follows u ls w b q (x ∷ l) → Shallow (tell x b .levels) → Tells u (heardOf ls w d) b x
+  tells : Tape u os → (x : Said Saying) (l : List (Said Saying)) (b : Tale) (q : Standing) → Follows u ls w b q (x ∷ l) → Shallow (tell x b .levels) → Tells u (heardOf ls w d) b x
   unfolding heardOf tell
-  tells x l b q f h =
-      let p : Heard u d x = g .more x l (f .hears) .0 in
+  tells k x l b q f h =
+      let p : Heard u d x = g .more k x l (f .hears) .0 in
       record {
         role = rw (p .what);
         says = p .what;
@@ -78,25 +79,25 @@ module _ (u ls : List ℕ) (w : Walk) (d : Cursor) (g : Advanced u (w .cursor) d
         owner = rw (p .what, f .nodes, f .depth) (owner-by ls b (detailOf (x .what) (x .token .bytes)) (x .token) (f .holds) (roleOf (x .what)) h);
       }
 
-  follows : (x : Said Saying) (l : List (Said Saying)) (b : Tale) (q : Standing) → Follows u ls w b q (x ∷ l) → (t : Standing) → Orderly t l → Follows u (listsNo ls roleHeard (w .nodes) (w .depth)) (heardOf ls w d) (tell x b) t l
+  follows : Tape u os → (x : Said Saying) (l : List (Said Saying)) (b : Tale) (q : Standing) → Follows u ls w b q (x ∷ l) → (t : Standing) → Orderly t l → Follows u (listsNo ls roleHeard (w .nodes) (w .depth)) (heardOf ls w d) (tell x b) t l
   unfolding heardOf tell
-  follows x l b q f t o =
-      let p : Heard u d x = g .more x l (f .hears) .0 in
-      let k : ℕ = detailOf (x .what) (x .token .bytes) in
+  follows k x l b q f t o =
+      let p : Heard u d x = g .more k x l (f .hears) .0 in
+      let n : ℕ = detailOf (x .what) (x .token .bytes) in
       record {
-        hears = g .more x l (f .hears) .1;
+        hears = g .more k x l (f .hears) .1;
         orderly = o;
-        nodes = rw (p .what, f .nodes) (nodes-by b k (x .token) (roleOf (x .what)));
-        depth = rw (p .what, f .depth) (depth-by b k (x .token) (roleOf (x .what)));
+        nodes = rw (p .what, f .nodes) (nodes-by b n (x .token) (roleOf (x .what)));
+        depth = rw (p .what, f .depth) (depth-by b n (x .token) (roleOf (x .what)));
         room = length-lists ls roleHeard (w .nodes) (w .depth) (f .room);
-        holds = rw (p .what, f .nodes, f .depth) (holds-by ls b k (x .token) (f .room) (f .holds) (roleOf (x .what)));
+        holds = rw (p .what, f .nodes, f .depth) (holds-by ls b n (x .token) (f .room) (f .holds) (roleOf (x .what)));
       }
 
-  pub walked : w .cursor .at < d .at → (d .says ≡ 94 → ⊥) → Bounded w → d .at < 18446744073709551616 → Walked u ls w (listsNo ls roleHeard (w .nodes) (w .depth)) (heardOf ls w d)
+  pub walked : w .cursor .at < d .at → (d .says ≡ 94 → ⊥) → Bounded w → d .at < 18446744073709551616 → Walked u os ls w (listsNo ls roleHeard (w .nodes) (w .depth)) (heardOf ls w d)
   unfolding heardOf nodesNo depthNo endNo
   walked s v n y =
       record {
-        more = λ x l b q f h. (tells x l b q f h, elim (f .orderly) [ onward {t = t} z i o ↦ (t, i, follows x l b q f t o) ]);
+        more = λ k x l b q f h. (tells k x l b q f h, elim (f .orderly) [ onward {t = t} z i o ↦ (t, i, follows k x l b q f t o) ]);
         done = λ b q f. absurd (v (g .done (f .hears)));
         onward = inr s;
         bounded = record { place = y; nodes = cond-le (eqb roleHeard 3) (omega arith) (cond-le (eqb roleHeard 4) (omega arith) (omega arith)); depth = cond-le (eqb roleHeard 5) (omega arith) (cond-le (eqb roleHeard 6) (omega arith) (omega arith)) };
@@ -104,10 +105,10 @@ module _ (u ls : List ℕ) (w : Walk) (d : Cursor) (g : Advanced u (w .cursor) d
         within = cond-le (eqb roleHeard 4) (omega (arith, g .ordered, g .within)) (g .within);
       }
 
-pub begun : (c : Cursor) → Begun c → c .at < 18446744073709551616 → Started (record { cursor = c; role = 15; «from» = 0; to = 0; owner = 0; nodes = 0; depth = 0 })
+pub begun : (os : List ℕ) (c : Cursor) → Begun os c → c .at < 18446744073709551616 → Started os (record { cursor = c; role = 15; «from» = 0; to = 0; owner = 0; nodes = 0; depth = 0 })
 unfolding Begun Holds
-begun c h y = record { follows = λ u ls l r e. record { hears = h u l e; orderly = plans-orderly u l e; nodes = refl; depth = refl; room = r; holds = tt }; bounded = record { place = y; nodes = omega arith; depth = omega arith } }
+begun os c h y = record { follows = λ u ls l r e k. record { hears = h u l e k; orderly = plans-orderly u l e; nodes = refl; depth = refl; room = r; holds = tt }; bounded = record { place = y; nodes = omega arith; depth = omega arith } }
 
 -- the walk goes further in the text, as long as it is not over
-pub further : {u ls : List ℕ} {w : Walk} {ls′ : List ℕ} {r : Walk} → Walked u ls w ls′ r → (r .role ≡ 16 → ⊥) → w .cursor .at < r .cursor .at
+pub further : {u os ls : List ℕ} {w : Walk} {ls′ : List ℕ} {r : Walk} → Walked u os ls w ls′ r → (r .role ≡ 16 → ⊥) → w .cursor .at < r .cursor .at
 further g e = elim (g .onward) [ inl h ↦ absurd (e h) | inr h ↦ h ]

@@ -6,6 +6,7 @@ use mathlib.Core.List.{List, [], _∷_}
 use lib.Dec.{eqb}
 use lib.ListN.{length, getD}
 use Rattle.recognise.specs.Hears.{piece}
+use Rattle.recognise.specs.Tape.{Tape}
 use Rattle.names.specs.declared.table.Told.{Told}
 use Rattle.names.specs.Judging.{countNo}
 use Rattle.names.specs.Tale.{Declared, Tale, listOf}
@@ -40,9 +41,10 @@ pub record TabledSort (u : List ℕ) (b : Tale) (fs ts os : List ℕ) (t : Told)
   pub fair : Fair u fs ts (baseOf k) (countOf t k)
   pub same : rows u fs ts os (baseOf k) (countOf t k) ≡ listOf k b
 
--- the tables have the whole tale b of the text u, if they say so
-unfoldable pub Ready : List ℕ → Tale → List ℕ → List ℕ → List ℕ → Told → Type 0
-Ready u b fs ts os t = t .whole ≡ true → (k : ℕ) → k < 4 → TabledSort u b fs ts os t k
+-- the tables have the whole tale b of the text u, if they say so; behind the owners lies the text's tape
+pub record Ready (u : List ℕ) (b : Tale) (fs ts os : List ℕ) (t : Told) : Type 0 where
+  pub tabled : t .whole ≡ true → (k : ℕ) → k < 4 → TabledSort u b fs ts os t k
+  pub tape : Tape u os
 
 -- the counts with one more of the sort
 unfoldable pub moreOf : Told → ℕ → Told
@@ -66,5 +68,5 @@ pub record Filled (u : List ℕ) (b : Tale) (fs ts os : List ℕ) (t : Told) : T
 
 -- opens every definition of this file
 unfoldable pub opened : Unit {0}
-unfolding baseOf roomOf countOf rowAt rows Fair Ready moreOf Within
+unfolding baseOf roomOf countOf rowAt rows Fair moreOf Within
 opened = tt

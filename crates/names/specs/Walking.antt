@@ -15,6 +15,7 @@ use Rattle.notation.specs.Reading.{planSays}
 use Rattle.recognise.specs.declared.Cursor.{Cursor}
 use Rattle.recognise.specs.Codes.{sayOf}
 use Rattle.recognise.specs.Hears.{Hears, piece}
+use Rattle.recognise.specs.Tape.{Tape}
 use Rattle.names.specs.declared.walk.Walk.{Walk}
 use Rattle.names.specs.Roles.{Role, roleOf, roleNumber, ended}
 use Rattle.names.specs.Tale.{Tale, untold, tell, top, hereIn}
@@ -120,8 +121,8 @@ pub record Bounded (w : Walk) : Type 0 where
   pub depth : w .depth ≤ w .cursor .at
 
 -- the walk w has gone on to r
-pub record Walked (u : List ℕ) (ls : List ℕ) (w : Walk) (ls′ : List ℕ) (r : Walk) : Type 0 where
-  pub more : (x : Said Saying) (l : List (Said Saying)) (b : Tale) (q : Standing) → Follows u ls w b q (x ∷ l) → Shallow (tell x b .levels) →
+pub record Walked (u os : List ℕ) (ls : List ℕ) (w : Walk) (ls′ : List ℕ) (r : Walk) : Type 0 where
+  pub more : Tape u os → (x : Said Saying) (l : List (Said Saying)) (b : Tale) (q : Standing) → Follows u ls w b q (x ∷ l) → Shallow (tell x b .levels) →
       Tells u r b x × ((t : Standing) × (after (roleOf (x .what)) q ≡ some t) × Follows u ls′ r (tell x b) t l)
   pub done : (b : Tale) (q : Standing) → Follows u ls w b q [] → r .role ≡ ended
   pub onward : (r .role ≡ ended) ⊎ (w .cursor .at < r .cursor .at)
@@ -130,8 +131,8 @@ pub record Walked (u : List ℕ) (ls : List ℕ) (w : Walk) (ls′ : List ℕ) (
   pub within : r .to ≤ length u
 
 -- at the beginning it hears what the text says
-pub record Started (r : Walk) : Type 0 where
-  pub follows : (u ls : List ℕ) (l : List (Said Saying)) → length ls ≡ 16 → planSays u ≡ some l → Follows u ls r untold declaring (spoken l)
+pub record Started (os : List ℕ) (r : Walk) : Type 0 where
+  pub follows : (u ls : List ℕ) (l : List (Said Saying)) → length ls ≡ 16 → planSays u ≡ some l → Tape u os → Follows u ls r untold declaring (spoken l)
   pub bounded : Bounded r
 
 -- opens every definition of this file

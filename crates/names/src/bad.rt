@@ -50,19 +50,19 @@ pub fn bad_name<'a>(
     text: &'a [u8],
     from: &'a [usize; 704],
     to: &'a [usize; 704],
-    owner: &'a [usize; 704],
+    owner: &'a [usize; 10525],
     told: Told,
 ) -> NameFound
     ensures { λ r. ⌜ ((l : List (Said Saying)) → Accepted (now (text .entry)) l → Ready (now (text .entry)) (taleSaid l) (now (from .entry)) (now (to .entry)) (now (owner .entry)) told → r ≡ foundOf (badName (draftOf l))) ⌝ }
 {
     let mut lists = [0usize; 16];
-    let mut w = start();
+    let mut w = start(owner);
     let mut p = held_from(0, 0, 0);
     let mut commands: usize = 0;
     let mut lookups: usize = 0;
     let mut variables: usize = 0;
     loop {
-        w = step(text, &mut lists, w);
+        w = step(text, owner, &mut lists, w);
         let role = w.role;
         if role == 16 {
             return found_nowhere();

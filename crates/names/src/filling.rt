@@ -13,6 +13,7 @@ ghost use Prim.Native.Nat.{_<_};
 ghost use lib.ListN.{length, set};
 ghost use Rattle.grammar.specs.Table.{Said};
 ghost use Rattle.notation.specs.Sayings.{Saying};
+ghost use Rattle.recognise.specs.Tape.{Tape};
 ghost use Rattle.names.specs.Answers.{Accepted, taleSaid};
 ghost use Rattle.names.specs.Tables.{moreOf, Roomy, Filled};
 
@@ -34,7 +35,7 @@ fn one_more(t: Told, sort: u8) -> Told
 fn put(
     from: &mut [usize; 704],
     to: &mut [usize; 704],
-    owner: &mut [usize; 704],
+    owner: &mut [usize; 10525],
     j: usize,
     a: usize,
     e: usize,
@@ -53,12 +54,12 @@ pub fn fill(
     text: &[u8],
     from: &mut [usize; 704],
     to: &mut [usize; 704],
-    owner: &mut [usize; 704],
+    owner: &mut [usize; 10525],
 ) -> Told
-    ensures { λ r. ⌜ ((l : List (Said Saying)) → length (now (from .entry)) ≡ 704 → length (now (to .entry)) ≡ 704 → length (now (owner .entry)) ≡ 704 → Accepted (now (text .entry)) l → Filled (now (text .entry)) (taleSaid l) (now (from .exit)) (now (to .exit)) (now (owner .exit)) r) ⌝ }
+    ensures { λ r. ⌜ ((l : List (Said Saying)) → length (now (from .entry)) ≡ 704 → length (now (to .entry)) ≡ 704 → length (now (owner .entry)) ≡ 10525 → Accepted (now (text .entry)) l → Tape (now (text .entry)) (now (owner .entry)) → Filled (now (text .entry)) (taleSaid l) (now (from .exit)) (now (to .exit)) (now (owner .exit)) r) ⌝ }
 {
     let mut lists = [0usize; 16];
-    let mut w = start();
+    let mut w = start(owner);
     let mut t = Told {
         whole: true,
         commands: 0,
@@ -67,7 +68,7 @@ pub fn fill(
         nodes: 0,
     };
     loop {
-        w = step(text, &mut lists, w);
+        w = step(text, owner, &mut lists, w);
         let role = w.role;
         if role == 16 {
             return t;

@@ -8,6 +8,7 @@ ghost use lib.ListN.{length};
 ghost use Rattle.grammar.specs.Table.{Said};
 ghost use Rattle.notation.specs.Sayings.{Saying};
 ghost use Rattle.notation.specs.Hearing.{draftOf};
+ghost use Rattle.recognise.specs.Tape.{Tape};
 ghost use Rattle.names.specs.Answers.{Accepted};
 ghost use Rattle.names.specs.Kinds.{Kinded};
 
@@ -19,14 +20,14 @@ fn kind_said(says: u8) -> usize
 }
 
 // In the order of declaration, at the places that `base_of` and `room_of` give to variables.
-pub fn fill_kinds(text: &[u8], kind: &mut [usize; 704])
-    ensures { λ r. ⌜ ((l : List (Said Saying)) → length (now (kind .entry)) ≡ 704 → Accepted (now (text .entry)) l → Kinded (draftOf l) (now (kind .entry)) (now (kind .exit))) ⌝ }
+pub fn fill_kinds<'a>(text: &'a [u8], owner: &'a [usize; 10525], kind: &mut [usize; 704])
+    ensures { λ r. ⌜ ((l : List (Said Saying)) → length (now (kind .entry)) ≡ 704 → Accepted (now (text .entry)) l → Tape (now (text .entry)) (now (owner .entry)) → Kinded (draftOf l) (now (kind .entry)) (now (kind .exit))) ⌝ }
 {
     let mut lists = [0usize; 16];
-    let mut w = start();
+    let mut w = start(owner);
     let mut n: usize = 0;
     loop {
-        w = step(text, &mut lists, w);
+        w = step(text, owner, &mut lists, w);
         let role = w.role;
         if role == 16 {
             return;

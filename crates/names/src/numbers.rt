@@ -15,6 +15,7 @@ ghost use Rattle.notation.specs.Sayings.{Saying};
 ghost use Rattle.notation.specs.Hearing.{draftOf};
 ghost use Rattle.notation.specs.Mapping.{numberOfCommand};
 ghost use Rattle.recognise.specs.Hears.{piece};
+ghost use Rattle.recognise.specs.Tape.{Tape};
 ghost use Rattle.names.specs.Answers.{Accepted};
 
 // The number that stands from `from` to `to`.
@@ -39,15 +40,15 @@ fn tells_number(role: u8, n: usize, i: usize) -> bool
 }
 
 // Of the command with the place i in the order of declaration; 0 beyond the commands.
-pub fn command_number(text: &[u8], i: usize) -> usize
-    ensures { λ r. ⌜ ((l : List (Said Saying)) → Accepted (now (text .entry)) l → r ≡ numberOfCommand (draftOf l .commands) i) ⌝ }
+pub fn command_number<'a>(text: &'a [u8], owner: &'a [usize; 10525], i: usize) -> usize
+    ensures { λ r. ⌜ ((l : List (Said Saying)) → Accepted (now (text .entry)) l → Tape (now (text .entry)) (now (owner .entry)) → r ≡ numberOfCommand (draftOf l .commands) i) ⌝ }
 {
     let mut lists = [0usize; 16];
-    let mut w = start();
+    let mut w = start(owner);
     let mut n: usize = 0;
     let mut number: usize = 0;
     loop {
-        w = step(text, &mut lists, w);
+        w = step(text, owner, &mut lists, w);
         let role = w.role;
         if role == 16 {
             return number;

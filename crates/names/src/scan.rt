@@ -14,6 +14,7 @@ ghost use lib.ListN.{length};
 ghost use Rattle.grammar.specs.Table.{Said};
 ghost use Rattle.notation.specs.Sayings.{Saying};
 ghost use Rattle.recognise.specs.Hears.{piece};
+ghost use Rattle.recognise.specs.Tape.{Tape};
 ghost use Rattle.names.specs.Seek.{isCalled, seek, nodeIn};
 ghost use Rattle.names.specs.Walking.{sortNo};
 ghost use Rattle.names.specs.Answers.{Accepted, foundOf, taleSaid, NodeIs, Lies};
@@ -37,24 +38,30 @@ pub fn sort_of(role: u8) -> u8
 }
 
 // The first declaration of the sort, the owner m and the name x.
-pub fn find(text: &[u8], sort: u8, m: usize, x: &[u8]) -> NameFound
+pub fn find<'a>(
+    text: &'a [u8],
+    owner: &'a [usize; 10525],
+    sort: u8,
+    m: usize,
+    x: &'a [u8],
+) -> NameFound
     requires { ⌜ sort < 4 ⌝ }
-    ensures { λ r. ⌜ ((l : List (Said Saying)) → Accepted (now (text .entry)) l → r ≡ foundOf (seek sort m (now (x .entry)) (taleSaid l))) × (r .place < 18446744073709551615) ⌝ }
+    ensures { λ r. ⌜ ((l : List (Said Saying)) → Accepted (now (text .entry)) l → Tape (now (text .entry)) (now (owner .entry)) → r ≡ foundOf (seek sort m (now (x .entry)) (taleSaid l))) × (r .place < 18446744073709551615) ⌝ }
 {
     let mut lists = [0usize; 16];
-    let mut w = start();
+    let mut w = start(owner);
     let mut count: usize = 0;
     loop {
-        w = step(text, &mut lists, w);
+        w = step(text, owner, &mut lists, w);
         let role = w.role;
         if role == 16 {
             return found_nowhere();
         }
         let from = w.from;
         let to = w.to;
-        let owner = w.owner;
+        let mine = w.owner;
         if sort_of(role) == sort {
-            if is_called(text, from, to, owner, m, x) {
+            if is_called(text, from, to, mine, m, x) {
                 return found_at(count);
             }
             count += 1;
@@ -63,13 +70,13 @@ pub fn find(text: &[u8], sort: u8, m: usize, x: &[u8]) -> NameFound
 }
 
 // The node of a number.
-pub fn node(text: &[u8], n: usize) -> NodeFound
-    ensures { λ r. ⌜ ((l : List (Said Saying)) → Accepted (now (text .entry)) l → NodeIs (now (text .entry)) (nodeIn (taleSaid l) n) r) × Lies (now (text .entry)) r ⌝ }
+pub fn node<'a>(text: &'a [u8], owner: &'a [usize; 10525], n: usize) -> NodeFound
+    ensures { λ r. ⌜ ((l : List (Said Saying)) → Accepted (now (text .entry)) l → Tape (now (text .entry)) (now (owner .entry)) → NodeIs (now (text .entry)) (nodeIn (taleSaid l) n) r) × Lies (now (text .entry)) r ⌝ }
 {
     let mut lists = [0usize; 16];
-    let mut w = start();
+    let mut w = start(owner);
     loop {
-        w = step(text, &mut lists, w);
+        w = step(text, owner, &mut lists, w);
         let role = w.role;
         if role == 16 {
             return NodeFound {
@@ -80,11 +87,15 @@ pub fn node(text: &[u8], n: usize) -> NodeFound
         }
         let from = w.from;
         let to = w.to;
-        let owner = w.owner;
+        let mine = w.owner;
         let nodes = w.nodes;
         if sort_of(role) == 3 {
             if here(nodes) == n {
-                return NodeFound { from, to, owner };
+                return NodeFound {
+                    from,
+                    to,
+                    owner: mine,
+                };
             }
         }
     }

@@ -19,7 +19,7 @@ pub fn find<'a>(
     text: &'a [u8],
     from: &'a [usize; 704],
     to: &'a [usize; 704],
-    owner: &'a [usize; 704],
+    owner: &'a [usize; 10525],
     told: Told,
     sort: u8,
     m: usize,
@@ -36,7 +36,7 @@ pub fn find<'a>(
         let base = table::base_of(sort);
         return table::find(text, from, to, owner, base, count, m, x);
     }
-    scan::find(text, sort, m, x)
+    scan::find(text, owner, sort, m, x)
 }
 
 // The node of a number.
@@ -44,7 +44,7 @@ pub fn node<'a>(
     text: &'a [u8],
     from: &'a [usize; 704],
     to: &'a [usize; 704],
-    owner: &'a [usize; 704],
+    owner: &'a [usize; 10525],
     told: Told,
     n: usize,
 ) -> NodeFound
@@ -67,5 +67,5 @@ pub fn node<'a>(
         }
         return table::row(text, from, to, owner, 448 + n);
     }
-    scan::node(text, n)
+    scan::node(text, owner, n)
 }

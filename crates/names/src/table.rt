@@ -70,7 +70,7 @@ pub fn find<'a>(
     text: &'a [u8],
     from: &'a [usize; 704],
     to: &'a [usize; 704],
-    owner: &'a [usize; 704],
+    owner: &'a [usize; 10525],
     base: usize,
     count: usize,
     m: usize,
@@ -104,7 +104,7 @@ pub fn row<'a>(
     text: &'a [u8],
     from: &'a [usize; 704],
     to: &'a [usize; 704],
-    owner: &'a [usize; 704],
+    owner: &'a [usize; 10525],
     j: usize,
 ) -> NodeFound
     requires { ⌜ j < 704 ⌝ }

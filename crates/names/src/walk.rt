@@ -8,12 +8,12 @@ ghost use Rattle.names.specs.Walking.{endNo, ownerAt, ownerNo, listsNo, 
 // The cursor; the role of what it heard last, where its name stands and its owner; how many nodes have begun and how many lists are open.
 pub struct Walk {
     pub cursor: Cursor,
-    pub role: u8,
     pub from: usize,
     pub to: usize,
     pub owner: usize,
     pub nodes: usize,
     pub depth: usize,
+    pub role: u8,
 }
 
 // The number of the node that is being told of.
@@ -98,10 +98,10 @@ fn end_of(role: u8, from: usize, to: usize) -> usize
 }
 
 // At the beginning of a text.
-pub fn start() -> Walk
-    ensures { λ r. ⌜ Started r ⌝ }
+pub fn start(owner: &[usize; 10525]) -> Walk
+    ensures { λ r. ⌜ Started (now (owner .entry)) r ⌝ }
 {
-    let c = recognise::begin();
+    let c = recognise::begin(owner);
     Walk {
         cursor: c,
         role: 15,
@@ -114,13 +114,13 @@ pub fn start() -> Walk
 }
 
 // To the next saying.
-pub fn step(text: &[u8], lists: &mut [usize; 16], w: Walk) -> Walk
+pub fn step<'a>(text: &'a [u8], owner: &'a [usize; 10525], lists: &mut [usize; 16], w: Walk) -> Walk
     requires { ⌜ Bounded w ⌝ }
-    ensures { λ r. ⌜ Walked (now (text .entry)) (now (lists .entry)) w (now (lists .exit)) r ⌝ }
+    ensures { λ r. ⌜ Walked (now (text .entry)) (now (owner .entry)) (now (lists .entry)) w (now (lists .exit)) r ⌝ }
 {
     let c = w.cursor;
     let before = c.at;
-    let d = recognise::advance(text, c);
+    let d = recognise::next(text, owner, c);
     let at = d.at;
     if at <= before {
         return ended(w);

@@ -11,7 +11,7 @@ pub fn read(text: &[u8], image: &mut [u8]) -> ReadReply
 {
     let mut from = [0usize; 704];
     let mut to = [0usize; 704];
-    let mut owner = [0usize; 704];
+    let mut owner = [0usize; 10525];
     let found = survey(text, image.len(), &mut from, &mut to, &mut owner);
     let reply = found.reply;
     if reply.number != 0 {

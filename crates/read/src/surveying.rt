@@ -49,7 +49,7 @@ fn named<'a>(
     text: &'a [u8],
     from: &'a [usize; 704],
     to: &'a [usize; 704],
-    owner: &'a [usize; 704],
+    owner: &'a [usize; 10525],
     told: Told,
     seen: Recognised,
     room: usize,
@@ -71,18 +71,19 @@ fn named<'a>(
     made(n)
 }
 
-// What refuses a text before its image is made, with so much room for it; else how long the image is. The tables of its declarations are lent.
+// What refuses a text before its image is made, with so much room for it; else how long the image is. The tables of its declarations, and the
+// tape behind the owners, are lent.
 pub(crate) fn survey(
     text: &[u8],
     room: usize,
     from: &mut [usize; 704],
     to: &mut [usize; 704],
-    owner: &mut [usize; 704],
+    owner: &mut [usize; 10525],
 ) -> Overview
-    ensures { λ r. ⌜ (length (now (from .entry)) ≡ 704 → length (now (to .entry)) ≡ 704 → length (now (owner .entry)) ≡ 704
+    ensures { λ r. ⌜ (length (now (from .entry)) ≡ 704 → length (now (to .entry)) ≡ 704 → length (now (owner .entry)) ≡ 10525
         → Surveyed (now (text .entry)) room (now (from .exit)) (now (to .exit)) (now (owner .exit)) r) ⌝ }
 {
-    let seen = recognise::recognise(text);
+    let seen = recognise::recognise(text, owner);
     if !seen.accepted {
         return early(40, seen.reach, seen);
     }

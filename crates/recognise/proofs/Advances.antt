@@ -26,10 +26,10 @@ use Rattle.recognise.specs.Codes as Codes
 use Rattle.recognise.specs.Codes.{sayOf, over}
 use Rattle.recognise.specs.Positions as Positions
 use Rattle.recognise.specs.Tables.{rowOf}
-use Rattle.recognise.specs.Steps.{Effect, refuses, goesOn, beginsNode, beginsInList, closesList, opensList, assigns, opensParen, ends, closesParen, marks, effectOf, unmarked, most, moved, stepOf}
+use Rattle.recognise.specs.Steps.{Effect, refuses, goesOn, beginsNode, beginsInList, closesList, opensList, assigns, opensParen, ends, closesParen, marks, effectOf, startAhead, most, moved, stepOf}
 use Rattle.recognise.specs.Taking.{takenOf}
 use Rattle.recognise.specs.Hears as Hears
-use Rattle.recognise.specs.Hears.{Hearing, Advanced, Heard, Begun, piece}
+use Rattle.recognise.specs.Hears.{Hearing, Scanned, Heard, piece}
 use Rattle.recognise.proofs.Claims.{listing}
 use Rattle.recognise.proofs.Claimed.{listed, row-says}
 use Rattle.recognise.proofs.Standing.{unmarked-marks}
@@ -123,11 +123,12 @@ pub record Kept (u : List ℕ) (m : ℕ) (b : Ahead) (n : ℕ) (a : Ahead) : Typ
   pub hears : (l : List (Said Saying)) → Hearing u m b l → Hearing u n a l
 
 module _ (u : List ℕ) (small : length u < 18446744073709551616) (c : Cursor) (n : ℕ) (a : Ahead) (kept : Kept u (c .at) (c .ahead) n a) (r : Taken) (e : r ≡ takenOf u n a) where
-  pub advanced-over : (r .kind ≡ 1 → ⊥) → Advanced u c (record { at = n; from = 0; to = 0; says = 94; ahead = a })
+  pub advanced-over : (r .kind ≡ 1 → ⊥) → Scanned u c (record { at = n; from = 0; to = 0; says = 94; ahead = a; sayings = 0 })
   unfolding Hears.opened
   advanced-over h = record {
     more = λ w l g. absurd (let z : w ∷ l ≡ [] = hear-ends u small n a (w ∷ l) (kept .hears (w ∷ l) g) r e h in let y : _≡_ {A = ℕ} 0 1 = cc in omega arith);
     done = λ g. refl;
+    plain = refl;
     onward = kept .onward;
     known = omega arith;
     ordered = omega arith;
@@ -141,7 +142,7 @@ module _ (u : List ℕ) (small : length u < 18446744073709551616) (c : Cursor) (
     pub kept-on : r .says ≡ 0 → Kept u (c .at) (c .ahead) (r .to) (r .next)
     kept-on s = record { onward = omega (arith, kept .onward, further .0); hears = λ l g. taken-silent u small n a r (taken-one u n a r e h) s l (kept .hears l g) }
 
-    pub advanced-heard : (r .says ≡ 0 → ⊥) → Advanced u c (record { at = r .to; from = r .from; to = r .to; says = r .says; ahead = r .next })
+    pub advanced-heard : (r .says ≡ 0 → ⊥) → Scanned u c (record { at = r .to; from = r .from; to = r .to; says = r .says; ahead = r .next; sayings = 0 })
     unfolding Hears.opened tokenIn
     advanced-heard s = record {
       more = λ w l g. (
@@ -153,6 +154,7 @@ module _ (u : List ℕ) (small : length u < 18446744073709551616) (c : Cursor) (
             omega (arith, kept .onward, further .0),
           ));
       done = λ g. absurd (let k = taken-heard u small n a r (taken-one u n a r e h) s [] (kept .hears [] g) in let y : _≡_ {A = ℕ} 0 1 = cc in omega arith);
+      plain = refl;
       onward = omega (arith, kept .onward, further .0);
       known = omega (arith, taken-says u small n a r (taken-one u n a r e h));
       ordered = further .1;
@@ -160,7 +162,7 @@ module _ (u : List ℕ) (small : length u < 18446744073709551616) (c : Cursor) (
     }
 
 -- at the beginning
-pub begun : Begun (record { at = 0; from = 0; to = 0; says = 94; ahead = record { at = 0; met = unmarked; rear = 0; parens = 0; lists = 0 } })
+pub begun : (u : List ℕ) (l : List (Said Saying)) → planSays u ≡ some l → Hearing u 0 startAhead (spoken l)
 unfolding Hears.opened Positions.opened planSays
 begun u l e = record {
   items = sort plan ∷ [];

@@ -132,15 +132,19 @@ refused-ok true h = absurd (h refl)
 refused-ok false h = refl
 
 module _ (u : List ℕ) (small : length u < 18446744073709551616) (n : ℕ) (a : Ahead) (c : Counts) (g : Following u n a c) where
-  pub follow-accepted : (r : Taken) → r ≡ takenOf u n a → r .kind ≡ 0 → emptyAt a ≡ true → tallied c ≡ recognisedOf u
-  unfolding takenOf afterHeard recognisedOf recognisedBy draftOf
-  follow-accepted r t h e =
+  -- the text says what has been heard
+  pub follow-says : (r : Taken) → r ≡ takenOf u n a → r .kind ≡ 0 → emptyAt a ≡ true → planSays u ≡ some (g .heard)
+  unfolding takenOf afterHeard
+  follow-says r t h e =
       let d = kind-by u a (tokenAt u n) r t h in
       let i : g .items ≡ [] = sym (g .stands .items) ∙ empty-items (g .stands .had) a e in
-      let p : planSays u ≡ some (g .heard ++ []) = g .says ∙ ap (λ (s : List (Item Sort)). afterHeard (g .heard) (saysFrom notation s u n)) i ∙ ap (afterHeard (g .heard)) (says-done notation u n d) in
-      ap tallied (g .counts ∙ ap (λ (l : List (Said Saying)). countsOf (hearAll l blank)) (sym (append-nil (g .heard))))
-      ∙ tallied-as (draftOf (g .heard ++ [])) (nothing-pending u (g .heard ++ []) p)
-      ∙ ap (λ (o : Option (List (Said Saying))). recognisedBy o u) (sym p)
+      g .says ∙ ap (λ (s : List (Item Sort)). afterHeard (g .heard) (saysFrom notation s u n)) i ∙ ap (afterHeard (g .heard)) (says-done notation u n d) ∙ ap some (append-nil (g .heard))
+
+  pub follow-accepted : (r : Taken) → r ≡ takenOf u n a → r .kind ≡ 0 → emptyAt a ≡ true → tallied c ≡ recognisedOf u
+  unfolding recognisedOf recognisedBy draftOf
+  follow-accepted r t h e =
+      let p = follow-says r t h e in
+      ap tallied (g .counts) ∙ tallied-as (draftOf (g .heard)) (nothing-pending u (g .heard) p) ∙ ap (λ (o : Option (List (Said Saying))). recognisedBy o u) (sym p)
 
   -- how much of a token is viable here
   module _ (from to : ℕ) (h : tokenAt u n ≡ token from to) where

@@ -41,6 +41,7 @@ use Rattle.recognise.proofs.Standing.{unmarked-marks}
 use Rattle.recognise.proofs.Stepping.{Right, step-right, step-ends}
 use Rattle.recognise.proofs.Takings.{One, taken-one}
 use Rattle.recognise.proofs.Hearings.{Near, step-near}
+use Rattle.recognise.proofs.Advances.{tokenSaid}
 use Rattle.recognise.proofs.CountLaws.{countsOf, pendingWeight, holding}
 use Rattle.recognise.proofs.CountHear.{count-hear}
 use Rattle.recognise.proofs.CountFew.{Few, few-more}
@@ -95,12 +96,18 @@ follow-begin u = record {
   few = record { nodes = omega arith; entries = omega arith; variables = omega arith; lookups = omega arith; commands = omega arith; depth = omega arith };
 }
 
-pub follow-started : (u : List ℕ) {a : Ahead} → a ≡ startAhead → Following u 0 a noCounts
-follow-started u e = subst⁻¹ (λ (b : Ahead). Following u 0 b noCounts) e (follow-begin u)
+pub begin-heard : (u : List ℕ) → follow-begin u .heard ≡ []
+unfolding follow-begin
+begin-heard u = refl
 
 module _ (u : List ℕ) (small : length u < 18446744073709551616) (n : ℕ) (a : Ahead) (c : Counts) (g : Following u n a c) (r : Taken) (one : One u n a r) where
   abbrev k : ℕ
   k = classOf (slice (r .from) (r .to) u)
+
+  -- the token has been followed: it is heard after what has been heard
+  pub record Followed (d : Counts) : Type 0 where
+    pub on : Following u (r .to) (r .next) d
+    pub more : on .heard ≡ g .heard ++ (tokenSaid u r ∷ [])
 
   count-more : (l : List (Said Saying)) (x : Saying) → x ≡ sayOf (r .says) → c ≡ countsOf (hearAll l blank)
       → countOf (sayOf (r .says)) (r .from) c ≡ countsOf (hearAll (l ++ (record { what = x; token = tokenIn u (r .from) (r .to) } ∷ [])) blank)
@@ -111,7 +118,7 @@ module _ (u : List ℕ) (small : length u < 18446744073709551616) (n : ℕ) (a :
 
   follow-row : (i : Item Sort) (s : List (Item Sort)) (o : Option (Row Sort Saying)) → chooseOf notation i (slice (r .from) (r .to) u) ≡ o → Right o s (stepOf a k)
       → textReach u ≡ reachFrom notation (i ∷ s) u n → planSays u ≡ afterHeard (g .heard) (saysFrom notation (i ∷ s) u n)
-      → Following u (r .to) (r .next) (countOf (sayOf (r .says)) (r .from) c)
+      → Followed (countOf (sayOf (r .says)) (r .from) c)
   unfolding onSaid
   follow-row i s none e f x y = absurd (let z : true ≡ false = sym (one .step-ok) ∙ f in let q : _≡_ {A = ℕ} 0 1 = cc in omega arith)
   follow-row i s (some o) e f x y =
@@ -119,27 +126,31 @@ module _ (u : List ℕ) (small : length u < 18446744073709551616) (n : ℕ) (a :
       let t = token-at u n (r .from) (r .to) h in
       let w : Said Saying = record { what = o .says; token = tokenIn u (r .from) (r .to) } in
       let near : Near a (r .next) = subst (Near a) (one .step-next) (step-near a k) in
+      let same : o .says ≡ sayOf (r .says) = sym (f .1) ∙ ap sayOf (one .step-says) in
       record {
-        inside = t .high;
-        items = o .rest ++ s;
-        stands = subst (λ (b : Ahead). Stands b (o .rest ++ s)) (one .step-next) (f .2);
-        fewParens = omega (arith, t .low, t .some, near .parens, g .fewParens);
-        fewLists = omega (arith, t .low, t .some, near .lists, g .fewLists);
-        heard = g .heard ++ (w ∷ []);
-        reaches = x ∙ reach-token notation u n (r .from) (r .to) h i s o e;
-        says =
-            y
-            ∙ ap (afterHeard (g .heard))
-            (says-token notation u n i s (r .from) (r .to) h
-            ∙ ap (λ (q : Option (Row Sort Saying)). onSaid notation (tokenIn u (r .from) (r .to)) q (λ z. saysFrom notation (z .rest ++ s) u (r .to))) e
-            ∙ said-heard (tokenIn u (r .from) (r .to)) o (saysFrom notation (o .rest ++ s) u (r .to)))
-            ∙ heard-more (g .heard) w (saysFrom notation (o .rest ++ s) u (r .to));
-        counts = count-more (g .heard) (o .says) (sym (f .1) ∙ ap sayOf (one .step-says)) (g .counts);
-        few = few-more n (r .to) (sayOf (r .says)) (r .from) c (omega (arith, t .low, t .some)) (g .few);
+        on = record {
+          inside = t .high;
+          items = o .rest ++ s;
+          stands = subst (λ (b : Ahead). Stands b (o .rest ++ s)) (one .step-next) (f .2);
+          fewParens = omega (arith, t .low, t .some, near .parens, g .fewParens);
+          fewLists = omega (arith, t .low, t .some, near .lists, g .fewLists);
+          heard = g .heard ++ (w ∷ []);
+          reaches = x ∙ reach-token notation u n (r .from) (r .to) h i s o e;
+          says =
+              y
+              ∙ ap (afterHeard (g .heard))
+              (says-token notation u n i s (r .from) (r .to) h
+              ∙ ap (λ (q : Option (Row Sort Saying)). onSaid notation (tokenIn u (r .from) (r .to)) q (λ z. saysFrom notation (z .rest ++ s) u (r .to))) e
+              ∙ said-heard (tokenIn u (r .from) (r .to)) o (saysFrom notation (o .rest ++ s) u (r .to)))
+              ∙ heard-more (g .heard) w (saysFrom notation (o .rest ++ s) u (r .to));
+          counts = count-more (g .heard) (o .says) same (g .counts);
+          few = few-more n (r .to) (sayOf (r .says)) (r .from) c (omega (arith, t .low, t .some)) (g .few);
+        };
+        more = ap (λ (x : Saying). g .heard ++ (record { what = x; token = tokenIn u (r .from) (r .to) } ∷ [])) same;
       }
 
   follow-by : (s : List (Item Sort)) → Stands a s → textReach u ≡ reachFrom notation s u n → planSays u ≡ afterHeard (g .heard) (saysFrom notation s u n)
-      → Following u (r .to) (r .next) (countOf (sayOf (r .says)) (r .from) c)
+      → Followed (countOf (sayOf (r .says)) (r .from) c)
   follow-by [] w x y =
       let t = token-at u n (r .from) (r .to) (one .next-token) in
       absurd (let z : true ≡ false = sym (one .step-ok) ∙ step-ends a k (class-below (slice (r .from) (r .to) u)) (omega (arith, t .low, t .some, t .high, g .fewParens)) (omega (arith, t .low, t .some, t .high, g .fewLists)) w in
@@ -150,8 +161,8 @@ module _ (u : List ℕ) (small : length u < 18446744073709551616) (n : ℕ) (a :
       (step-right a k (class-below (slice (r .from) (r .to) u)) (omega (arith, t .low, t .some, t .high, g .fewParens)) (omega (arith, t .low, t .some, t .high, g .fewLists)) i s w)
       x y
 
-  pub follow-on : Following u (r .to) (r .next) (countOf (sayOf (r .says)) (r .from) c)
+  pub follow-on : Followed (countOf (sayOf (r .says)) (r .from) c)
   follow-on = follow-by (g .items) (g .stands) (g .reaches) (g .says)
 
-  pub follow-counted : {d : Counts} → d ≡ countOf (sayOf (r .says)) (r .from) c → Following u (r .to) (r .next) d
-  follow-counted e = subst⁻¹ (λ (d : Counts). Following u (r .to) (r .next) d) e follow-on
+  pub follow-counted : {d : Counts} → d ≡ countOf (sayOf (r .says)) (r .from) c → Followed d
+  follow-counted e = subst⁻¹ Followed e follow-on

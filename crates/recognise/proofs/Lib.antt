@@ -12,6 +12,8 @@ pub mod Takings
 pub mod Pieces
 pub mod Hearings
 pub mod Advances
+pub mod Tapes
+pub mod Taping
 pub mod CountLaws
 pub mod CountHear
 pub mod CountBy

@@ -1,5 +1,5 @@
 -- What is still to come, as a cursor tells it, and what a cursor hears: the sayings of the text that are still to come, silent tokens left out.
-use Prim.Native.Nat.{ℕ, _<_, _≤_, _-_}
+use Prim.Native.Nat.{ℕ, _+_, _<_, _≤_, _-_}
 use mathlib.Core.Path.{_≡_}
 use mathlib.Core.Bool.{Bool, true, false, not, cond}
 use mathlib.Core.List.{List, [], _∷_, _++_}
@@ -52,9 +52,26 @@ pub record Hearing (u : List ℕ) (n : ℕ) (a : Ahead) (l : List (Said Saying))
   pub fewParens : a .parens ≤ n
   pub fewLists : a .lists ≤ n
 
--- the cursor hears the sayings l, and then the text ends
+-- sayings whose tokens end before place 262144 of the text, and are shorter than 128 bytes
+abbrev pub Narrow : List (Said Saying) → Type 0
+Narrow l = (i : ℕ) (w : Said Saying) (k : List (Said Saying)) → drop i l ≡ w ∷ k → (w .token .place + length (w .token .bytes) < 262144) × (length (w .token .bytes) < 128)
+
+-- sayings that the tape has room for
+pub record Brief (l : List (Said Saying)) : Type 0 where
+  pub few : length l ≤ 19640
+  pub narrow : Narrow l
+
+-- of the text's sayings the cursor has heard as many as its place tells, and the sayings l are left
+pub record Left (u : List ℕ) (c : Cursor) (l : List (Said Saying)) : Type 0 where
+  pub whole : List (Said Saying)
+  pub says : planSays u ≡ some whole
+  pub brief : Brief (spoken whole)
+  pub count : c .sayings ≡ length (spoken whole)
+  pub left : drop (c .at) (spoken whole) ≡ l
+
+-- the cursor hears the sayings l, and then the text ends: in the text, or on the tape
 unfoldable pub Hears : List ℕ → Cursor → List (Said Saying) → Type 0
-Hears u c l = Hearing u (c .at) (c .ahead) l
+Hears u c l = (c .sayings ≡ 0 → Hearing u (c .at) (c .ahead) l) × ((c .sayings ≡ 0 → ⊥) → Left u c l)
 
 -- the bytes of u from place i up to place j
 unfoldable pub piece : List ℕ → ℕ → ℕ → List ℕ
@@ -66,20 +83,17 @@ pub record Heard (u : List ℕ) (c : Cursor) (w : Said Saying) : Type 0 where
   pub bytes : piece u (c .from) (c .to) ≡ w .token .bytes
   pub place : c .from ≡ w .token .place
 
--- the cursor c has gone on to r
-pub record Advanced (u : List ℕ) (c r : Cursor) : Type 0 where
-  pub more : (w : Said Saying) (l : List (Said Saying)) → Hears u c (w ∷ l) → Heard u r w × Hears u r l × (c .at < r .at)
-  pub done : Hears u c [] → r .says ≡ over
+-- the cursor c has gone on to r in the text itself
+pub record Scanned (u : List ℕ) (c r : Cursor) : Type 0 where
+  pub more : (w : Said Saying) (l : List (Said Saying)) → Hearing u (c .at) (c .ahead) (w ∷ l) → Heard u r w × Hearing u (r .at) (r .ahead) l × (c .at < r .at)
+  pub done : Hearing u (c .at) (c .ahead) [] → r .says ≡ over
+  pub plain : r .sayings ≡ 0
   pub onward : c .at ≤ r .at
   pub known : r .says ≤ over
   pub ordered : r .from ≤ r .to
   pub within : r .to ≤ length u
 
--- at the beginning it hears what the text says
-unfoldable pub Begun : Cursor → Type 0
-Begun c = (u : List ℕ) (l : List (Said Saying)) → planSays u ≡ some l → Hears u c (spoken l)
-
 -- opens every definition of this file
 unfoldable pub opened : Unit {0}
-unfolding rearItem below itemsOf Hears piece Begun
+unfolding rearItem below itemsOf Hears piece
 opened = tt

@@ -4,6 +4,7 @@ pub mod Tables
 pub mod Steps
 pub mod Taking
 pub mod Hears
+pub mod Tape
 pub mod Counting
 pub mod Recognised
 pub mod Room

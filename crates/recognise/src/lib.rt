@@ -2,15 +2,18 @@
 ghost use mathlib.Core.Path.{_≡_};
 ghost use Rattle.recognise.specs.Tables.{refusal, rowOf};
 ghost use Prim.Native.Nat.{_<_};
-ghost use Rattle.recognise.specs.Hears.{Advanced, Begun};
+ghost use Rattle.recognise.specs.Hears.{Scanned};
 ghost use Rattle.recognise.specs.Taking.{takenAs, takenOf};
 ghost use Rattle.recognise.specs.Steps.{beginsInList, closesList, opensList, opensParen, ends, closesParen, marks, rearAt, moved, stepOf, refused, went, startAhead};
 
 mod counting;
 mod recognising;
 mod tables;
+mod tape;
 
 pub use recognising::recognise;
+pub use tape::begin;
+pub use tape::next;
 
 // What is still to come: the position, a mark for each attribute that the node has, what follows the expression at hand, its open
 // parentheses, and the open lists.
@@ -31,18 +34,18 @@ pub struct Move {
 
 // Whether a token can come, what it says, and what is to come after it.
 pub struct Stepped {
+    pub next: Ahead,
     pub ok: bool,
     pub says: u8,
-    pub next: Ahead,
 }
 
 // The next token of a text: see specs/Taking.
 pub struct Taken {
-    pub kind: u8,
     pub from: usize,
     pub to: usize,
-    pub says: u8,
     pub next: Ahead,
+    pub kind: u8,
+    pub says: u8,
 }
 
 // The counts of a plan while its text is followed: what has been declared and begun, the entries that are made or pending, the open lists,
@@ -72,13 +75,15 @@ pub struct Recognised {
     pub commands: usize,
 }
 
-// A place in the text, the last token that said something with the number of what it said, and what is still to come.
+// A place, the last token that said something with the number of what it said, and what is still to come. Where the tape has the text, with
+// so many sayings, the place is the number of those that were heard; where it has not, `sayings` is 0, and the place is one in the text.
 pub struct Cursor {
     pub at: usize,
     pub from: usize,
     pub to: usize,
-    pub says: u8,
+    pub sayings: usize,
     pub ahead: Ahead,
+    pub says: u8,
 }
 
 // No row.
@@ -321,23 +326,9 @@ fn start() -> Ahead
     }
 }
 
-// At the beginning of a text.
-pub fn begin() -> Cursor
-    ensures { λ r. ⌜ Begun r ⌝ }
-{
-    let ahead = start();
-    Cursor {
-        at: 0,
-        from: 0,
-        to: 0,
-        says: 94,
-        ahead,
-    }
-}
-
 // To the next token that says something.
-pub fn advance(text: &[u8], c: Cursor) -> Cursor
-    ensures { λ r. ⌜ Advanced (now (text .entry)) c r ⌝ }
+fn advance(text: &[u8], c: Cursor) -> Cursor
+    ensures { λ r. ⌜ Scanned (now (text .entry)) c r ⌝ }
 {
     let mut at = c.at;
     let mut ahead = c.ahead;
@@ -350,6 +341,7 @@ pub fn advance(text: &[u8], c: Cursor) -> Cursor
                 to: 0,
                 says: 94,
                 ahead,
+                sayings: 0,
             };
         }
         at = t.to;
@@ -361,6 +353,7 @@ pub fn advance(text: &[u8], c: Cursor) -> Cursor
                 to: t.to,
                 says: t.says,
                 ahead,
+                sayings: 0,
             };
         }
     }

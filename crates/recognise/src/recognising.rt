@@ -1,6 +1,8 @@
 // Whether a text is of the notation, how far it is viable, and its counts: one loop over its tokens, no stack.
 ghost use mathlib.Core.Path.{_≡_};
 ghost use Rattle.recognise.specs.Recognised.{refusedAt, recognisedOf};
+ghost use lib.ListN.{length};
+ghost use Rattle.recognise.specs.Tape.{Tape};
 ghost use Rattle.recognise.specs.Reaching.{emptyAt, tallied, viableFrom, moreOf, reachedBy, Lies};
 use super::Ahead;
 use super::Counts;
@@ -10,6 +12,8 @@ use super::counting::count;
 use super::start;
 use super::step;
 use super::take;
+use super::tape::keep;
+use super::tape::seal;
 
 // Nothing is to come.
 fn is_empty(a: Ahead) -> bool
@@ -93,10 +97,12 @@ fn reach_of(text: &[u8], t: Taken, a: Ahead) -> usize
     from + viable_at(&text[from..to], a)
 }
 
-pub fn recognise(text: &[u8]) -> Recognised
-    ensures { λ r. ⌜ r ≡ recognisedOf (now (text .entry)) ⌝ }
+// What the text says is kept on the tape behind the owners.
+pub fn recognise(text: &[u8], owner: &mut [usize; 10525]) -> Recognised
+    ensures { λ r. ⌜ (r ≡ recognisedOf (now (text .entry))) × (length (now (owner .entry)) ≡ 10525 → (length (now (owner .exit)) ≡ 10525) × Tape (now (text .entry)) (now (owner .exit))) ⌝ }
 {
     let mut at = 0;
+    let mut sayings: usize = 0;
     let mut ahead = start();
     let mut n = Counts {
         nodes: 0,
@@ -113,11 +119,13 @@ pub fn recognise(text: &[u8]) -> Recognised
         let t = take(text, at, ahead);
         if t.kind != 1 {
             if (t.kind == 0) & is_empty(ahead) {
+                seal(owner, sayings);
                 return accepted_as(n);
             }
             return refused_at(reach_of(text, t, ahead));
         }
         n = count(n, t.says, t.from);
+        sayings = keep(owner, sayings, t.says, t.from, t.to);
         at = t.to;
         ahead = t.next;
     }

@@ -46,7 +46,7 @@ next-requires c κs = search needs
 -- src/attributes.rt:122:9
 returns-2 : tie.Need-returns-2
 returns-2 c =
-    (λ whole before parent size k room site n m lo t. told-condition _ whole before parent size k _ _ _ t _ _ _ _ _ _ _ _ _ room site n m lo (omega arith) (c .before .before .expression .ensures) (c .before .last .ensures) (c .next .ensures), search needs)
+    (λ whole before parent size k room site n m lo t. told-condition _ whole before parent size k _ _ _ t _ _ _ _ _ _ _ _ _ room site n m lo (omega arith) (c .before .before .expression .ensures) (c .before .last .ensures) (c .next .ensures (site .known .ready .tape)), search needs)
 
 -- src/attributes.rt:129:9
 next-requires-2 : tie.Need-next-requires-2
@@ -58,7 +58,7 @@ rank-requires c κs = search needs
 
 -- src/attributes.rt:131:9
 returns-3 : tie.Need-returns-3
-returns-3 c = (λ whole before parent size k room site n m lo t. (told-rank _ whole before parent size k _ _ _ t _ _ (omega arith) (c .rank .ensures) (c .before .before .next2 .ensures), room), refl)
+returns-3 c = (λ whole before parent size k room site n m lo t. (told-rank _ whole before parent size k _ _ _ t _ _ (omega arith) (c .rank .ensures) (c .before .before .next2 .ensures (site .known .ready .tape)), room), refl)
 
 -- src/attributes.rt:142:64
 sub-add-variable : tie.Need-sub-add-variable
@@ -71,7 +71,7 @@ add-variable-requires c κs = search needs
 -- src/attributes.rt:139:9
 returns-4 : tie.Need-returns-4
 returns-4 c =
-    (λ whole before parent size k room site n m lo t. (told-variable _ whole before parent size k _ _ _ t _ _ _ _ _ _ _ _ site n (omega arith) (omega arith) refl (c .add-variable .ensures) (c .before .before .before .before .next2 .ensures), room), refl)
+    (λ whole before parent size k room site n m lo t. (told-variable _ whole before parent size k _ _ _ t _ _ _ _ _ _ _ _ site n (omega arith) (omega arith) refl (c .add-variable .ensures) (c .before .before .before .before .next2 .ensures (site .known .ready .tape)), room), refl)
 
 -- src/attributes.rt:146:44
 initial-requires : tie.Need-initial-requires
@@ -84,7 +84,7 @@ set-initial-requires c κs = search needs
 -- src/attributes.rt:86:1
 returns-5 : tie.Need-returns-5
 returns-5 c =
-    (λ whole before parent size k room site n m lo t. (told-initial _ whole before parent size k _ _ _ t _ _ _ _ _ _ site (omega arith) (c .before .initial .ensures) (c .set-initial .ensures) (c .before .before .before .before .before .next2 .ensures), room), refl)
+    (λ whole before parent size k room site n m lo t. (told-initial _ whole before parent size k _ _ _ t _ _ _ _ _ _ site (omega arith) (c .before .initial .ensures) (c .set-initial .ensures) (c .before .before .before .before .before .next2 .ensures (site .known .ready .tape)), room), refl)
 
 pub attribute-spec : {M : Type 1} → statement M
 attribute-spec =

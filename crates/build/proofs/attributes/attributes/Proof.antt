@@ -40,7 +40,7 @@ loop-holds c = (λ whole before parent size k room site n h m t. (told-on (omega
 returns : tie.Need-returns Inv-loop μ-loop
 returns c =
     let i = c .before .before .before .before .loop .inv in
-    (λ whole before parent size k room site h m z o. let t = i .0 whole before parent size k room site (o .counted) h m (told-first o z (c .before .before .before .before .before .next .ensures)) in (told-on (omega arith) (t .0), c .if1 .taken, t .1), i .1)
+    (λ whole before parent size k room site h m z o. let t = i .0 whole before parent size k room site (o .counted) h m (told-first o z (c .before .before .before .before .before .next .ensures (site .known .ready .tape))) in (told-on (omega arith) (t .0), c .if1 .taken, t .1), i .1)
 
 -- src/attributes.rt:185:9
 attribute-requires : tie.Need-attribute-requires Inv-loop μ-loop
@@ -48,7 +48,7 @@ attribute-requires c κs = search needs
 
 -- src/attributes.rt:199:9
 add-turns : tie.Need-add-turns Inv-loop μ-loop
-add-turns c = search needs
+add-turns c = omega (arith, c .before .before .before .before .before .before .before .loop-test .taken, c .before .before .before .before .before .before .before .before .before .before .before .fits .left)
 
 -- src/attributes.rt:180:5
 loop-less : tie.Need-loop-less Inv-loop μ-loop
@@ -64,7 +64,7 @@ loop-again c =
 returns-2 : tie.Need-returns-2 Inv-loop μ-loop
 returns-2 c =
     let i = c .before .loop .inv in
-    (λ whole before parent size k room site h m z o. absurd (omega (arith, i .0 whole before parent size k room site (o .counted) h m (told-first o z (c .before .before .next .ensures)) .0 .short)), i .1)
+    (λ whole before parent size k room site h m z o. absurd (omega (arith, i .0 whole before parent size k room site (o .counted) h m (told-first o z (c .before .before .next .ensures (site .known .ready .tape))) .0 .short)), i .1)
 
 pub attributes-spec : {M : Type 1} → statement M
 attributes-spec =

@@ -52,9 +52,9 @@ follow-requires c κs = search needs
 returns : tie.Need-returns Inv-loop μ-loop
 returns c q size z k f rest h d =
     let i = c .before .before .before .before .before .before .before .before .before .before .before .before .before .loop .inv q size (first-length (c .before .before .before .before .before .before .before .before .before .before .before .before .before .before .before .args .pending .now) z) k f rest h (due-first (c .before .before .before .before .before .before .before .before .before .before .before .before .before .before .before .args .pending .now) z d) in
-    let m = c .before .before .before .before .before .before .before .before .before .before .prefixes .ensures q _ _ _ _ _ (i .1) f rest (omega arith) (i .0) in
+    let m = c .before .before .before .before .before .before .before .before .before .before .prefixes .ensures (k .ready .tape) q _ _ _ _ _ (i .1) f rest (omega arith) (i .0) in
     let p = operand-read _ _ _ k f (omega arith) (m .0) (m .1) (m .2) (c .before .before .before .before .before .before .before .numeric .ensures) in
-    let w = c .before .before .before .follow .ensures q _ _ (m .3) f rest (omega arith) (p .0) in
+    let w = c .before .before .before .follow .ensures (k .ready .tape) q _ _ (m .3) f rest (omega arith) (p .0) in
     let e = past-ends _ q _ _ f rest _ (w .6) _ size _ _ _ _ (past-by-on (omega arith) (w .0)) (w .3) (w .4) (c .if1 .taken) (w .1) in
     (e .0, e .1, w .6)
 
@@ -72,15 +72,15 @@ add-turns c = omega (arith, c .before .before .before .before .before .before .b
 
 -- src/expressions.rt:39:5
 loop-less : tie.Need-loop-less Inv-loop μ-loop
-loop-less c = search needs
+loop-less c = omega (arith, c .before .before .before .before .before .before .before .before .before .before .before .before .before .before .before .loop-test .taken)
 
 -- src/expressions.rt:39:5
 loop-again : tie.Need-loop-again Inv-loop μ-loop
 loop-again c q size z k f rest h x =
     let i = c .before .before .before .before .before .before .before .before .before .before .before .before .before .before .before .before .loop .inv q size z k f rest h x in
-    let m = c .before .before .before .before .before .before .before .before .before .before .before .before .before .prefixes .ensures q _ _ _ _ _ (i .1) f rest (omega arith) (i .0) in
+    let m = c .before .before .before .before .before .before .before .before .before .before .before .before .before .prefixes .ensures (k .ready .tape) q _ _ _ _ _ (i .1) f rest (omega arith) (i .0) in
     let p = operand-read _ _ _ k f (omega arith) (m .0) (m .1) (m .2) (c .before .before .before .before .before .before .before .before .before .before .numeric .ensures) in
-    let w = c .before .before .before .before .before .before .follow .ensures q _ _ (m .3) f rest (omega arith) (p .0) in
+    let w = c .before .before .before .before .before .before .follow .ensures (k .ready .tape) q _ _ (m .3) f rest (omega arith) (p .0) in
     let e = past-pushed _ q _ _ _ _ _ _ _ _ _ _ _ _ f rest (w .6) (w .0) (w .3) (w .4) (c .before .before .before .if1 .left) (omega (arith, w .5, p .1)) (c .before .last .ensures) (c .push .ensures) in
     (due-by-on (omega arith) (e .0), e .1)
 

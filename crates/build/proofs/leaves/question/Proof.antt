@@ -40,7 +40,7 @@ ask-not-requires c κs = search needs
 returns : tie.Need-returns
 returns c s n ps size es ms h kn f m lies e st hl =
     let w = c .before .before .before .before .before .before .before .before .walk .ensures s n ps size es ms h kn (f .small) m lies e hl in
-    asked-one _ s _ n ps size es ms _ _ _ _ _ _ 0 _ _ _ _ _ _ [] f st (c .before .before .next .ensures) (w .3) (c .before .before .before .before .before .ask-op .ensures) (c .before .before .before .before .ask-code .ensures) (c .before .ask-not .ensures) (c .before .before .before .emit .ensures) (w .1) (w .2) (c .if1 .taken)
+    asked-one _ s _ n ps size es ms _ _ _ _ _ _ 0 _ _ _ _ _ _ [] f st (c .before .before .next .ensures (kn .ready .tape)) (w .3) (c .before .before .before .before .before .ask-op .ensures) (c .before .before .before .before .ask-code .ensures) (c .before .ask-not .ensures) (c .before .before .before .emit .ensures) (w .1) (w .2) (c .if1 .taken)
 
 -- src/leaves.rt:44:9
 emit-requires-2 : tie.Need-emit-requires-2
@@ -50,7 +50,7 @@ emit-requires-2 c κs = search needs
 returns-2 : tie.Need-returns-2
 returns-2 c s n ps size es ms h kn f m lies e st hl =
     let w = c .before .before .before .before .before .before .before .before .before .before .walk .ensures s n ps size es ms h kn (f .small) m lies e hl in
-    asked-two _ s _ n ps size es ms _ _ _ _ _ _ _ _ _ _ _ _ _ _ f st (c .before .before .before .before .next .ensures) (w .3) (c .before .before .before .before .before .before .before .ask-op .ensures) (c .before .before .before .before .before .before .ask-code .ensures) (c .before .before .before .ask-not .ensures) (c .before .before .before .before .before .emit .ensures) (w .1) (w .2) (c .before .before .if1 .left) (c .emit2 .ensures)
+    asked-two _ s _ n ps size es ms _ _ _ _ _ _ _ _ _ _ _ _ _ _ f st (c .before .before .before .before .next .ensures (kn .ready .tape)) (w .3) (c .before .before .before .before .before .before .before .ask-op .ensures) (c .before .before .before .before .before .before .ask-code .ensures) (c .before .before .before .ask-not .ensures) (c .before .before .before .before .before .emit .ensures) (w .1) (w .2) (c .before .before .if1 .left) (c .emit2 .ensures)
 
 pub question-spec : {M : Type 1} → statement M
 question-spec =

@@ -79,7 +79,7 @@ list-returns : (t : ℕ) → list-lts.Need-returns (
 ) (list-at t) list.Post list-Inv-loop list-μ-loop
 list-returns t c whole d parent size k room site h m l =
     let i = c .before .before .before .before .loop .inv whole d parent size k room site h m l in
-    (done-in (i .2) (omega arith) (list-ends _ whole (i .0) parent _ _ k _ _ (i .1) _ (c .before .before .next .ensures) (c .if1 .taken)), i .3)
+    (done-in (i .2) (omega arith) (list-ends _ whole (i .0) parent _ _ k _ _ (i .1) _ (c .before .before .next .ensures (site .known .ready .tape)) (c .if1 .taken)), i .3)
 
 -- src/nodes.rt:207:13
 list-sub-node : (t : ℕ) → list-lts.Need-sub-node (
@@ -126,7 +126,7 @@ list-loop-again : (t : ℕ) → list-lts.Need-loop-again (
 ) (list-at t) list.Post list-Inv-loop list-μ-loop
 list-loop-again t c whole d parent size k room site h m l =
     let i = c .before .before .before .before .before .before .before .loop .inv whole d parent size k room site h m l in
-    let o = node-begins _ whole (i .0) parent _ _ k _ _ (i .1) _ (c .before .before .before .before .before .next .ensures) (c .before .before .before .if1 .left) in
+    let o = node-begins _ whole (i .0) parent _ _ k _ _ (i .1) _ (c .before .before .before .before .before .next .ensures (site .known .ready .tape)) (c .before .before .before .if1 .left) in
     let y = c .node .ensures whole (i .0 .nodes) _ (o .0) (i .3) site (omega arith) (omega arith) (o .1) in
     let x = y .0 in
     (x .draft, listing-on (omega arith) (list-goes (i .1) (o .2) x), keeps-all (d .nodes) (i .0 .nodes) (x .draft .nodes) (i .2) (x .keeps), y .1)

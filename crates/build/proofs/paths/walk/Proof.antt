@@ -67,7 +67,7 @@ loop-again c = (
   c .before .part .ensures .1,
   λ s n ps size es ms h kn z hl.
       let t = c .before .before .before .before .before .loop .inv .1 s n ps size es ms h kn z hl in
-      let x = part-held _ s n ps _ es ms h _ _ (t .0) (t .1) (c .before .before .if1 .left) (c .next .ensures) in (
+      let x = part-held _ s n ps _ es ms h _ _ (t .0) (t .1) (c .before .before .if1 .left) (c .next .ensures (kn .ready .tape)) in (
         t .0 ▸ t .1 .next .token,
         held-at _ s n ps _ es ms h (size - (c .before .before .before .before .before .loop .turns + 1)) _ _ (omega arith) x,
         part-found (s .whole) _ _ _ h (t .0) (t .1 .next .token) (t .1 .heard .just .bytes) (c .before .part .ensures .0 (s .whole) _ kn (t .1 .heard .ordered, t .1 .heard .inside) (t .2)),

@@ -40,7 +40,7 @@ loop-holds c = (
   omega arith,
   omega arith,
   rw (c .held-from .ensures) (record { ordered = omega arith; within = omega arith; small = omega arith }),
-  λ l a r. halfway-start _ _ (c .before .start .result) (c .before .start .ensures) refl l a (rw (c .held-from .ensures) (nothing-bad _ (draftOf l))),
+  λ l a r. halfway-start _ _ _ (c .before .start .result) (c .before .start .ensures) refl l a (r .tape) (rw (c .held-from .ensures) (nothing-bad _ (draftOf l))),
 )
 
 step-requires : tie.Need-step-requires Inv-loop μ-loop
@@ -50,7 +50,7 @@ found-nowhere-requires : tie.Need-found-nowhere-requires Inv-loop μ-loop
 found-nowhere-requires c κs = search needs
 
 returns : tie.Need-returns Inv-loop μ-loop
-returns c = λ l a r. c .found-nowhere .ensures ∙ ap foundOf (sym (all-fine _ l a _ _ _ _ _ (all-told _ _ _ _ _ (c .before .before .step .ensures) l a (c .before .if1 .taken) (c .before .before .before .before .loop .inv .5 l a r) .1)))
+returns c = λ l a r. c .found-nowhere .ensures ∙ ap foundOf (sym (all-fine _ l a _ _ _ _ _ (all-told _ _ _ _ _ _ (c .before .before .step .ensures) l a (r .tape) (c .before .if1 .taken) (c .before .before .before .before .loop .inv .5 l a r) .1)))
 
 index-of-requires : tie.Need-index-of-requires Inv-loop μ-loop
 index-of-requires c κs = search needs
@@ -60,7 +60,7 @@ judge-requires c κs = (record { ordered = c .before .before .step .ensures .ord
 
 returns-2 : tie.Need-returns-2 Inv-loop μ-loop
 unfolding Judging.Judged
-returns-2 c = λ l a r. let n = newly _ _ _ _ _ (c .before .before .before .before .step .ensures) l a (c .before .before .before .if1 .left) (c .before .before .before .before .before .before .loop .inv .5 l a r) in found-bad _ l a _ _ _ _ n _ (c .before .judge .ensures l a r (n .tale) (n .said) (newly-hearing _ l a _ _ _ _ n) (λ h. c .before .before .index-of .ensures ∙ newly-index _ l a _ _ _ _ n h) (n .known .path)) (c .if2 .taken)
+returns-2 c = λ l a r. let n = newly _ _ _ _ _ _ (c .before .before .before .before .step .ensures) l a (r .tape) (c .before .before .before .if1 .left) (c .before .before .before .before .before .before .loop .inv .5 l a r) in found-bad _ l a _ _ _ _ n _ (c .before .judge .ensures l a r (n .tale) (n .said) (newly-hearing _ l a _ _ _ _ n) (λ h. c .before .before .index-of .ensures ∙ newly-index _ l a _ _ _ _ n h) (n .known .path)) (c .if2 .taken)
 
 path-after-requires : tie.Need-path-after-requires Inv-loop μ-loop
 path-after-requires c κs = (record { ordered = c .before .before .before .before .step .ensures .ordered; within = c .before .before .before .before .step .ensures .within; small = omega (arith, c .before .before .before .before .step .ensures .bounded .nodes, c .before .before .before .before .step .ensures .bounded .place) }, c .before .before .before .before .before .before .loop .inv .4)
@@ -86,7 +86,7 @@ loop-again c = (
   rw (c .counted3 .ensures) (count-le _ _ _ _ (c .before .before .before .before .before .before .before .before .before .before .loop .inv .3) (further (c .before .before .before .before .before .before .before .before .step .ensures) (c .before .before .before .before .before .before .before .if1 .left))),
   c .before .before .before .path-after .ensures .1,
   λ l a r.
-      let n = newly _ _ _ _ _ (c .before .before .before .before .before .before .before .before .step .ensures) l a (c .before .before .before .before .before .before .before .if1 .left) (c .before .before .before .before .before .before .before .before .before .before .loop .inv .5 l a r) in
+      let n = newly _ _ _ _ _ _ (c .before .before .before .before .before .before .before .before .step .ensures) l a (r .tape) (c .before .before .before .before .before .before .before .if1 .left) (c .before .before .before .before .before .before .before .before .before .before .loop .inv .5 l a r) in
       rw (c .before .before .counted .ensures, c .before .counted2 .ensures, c .counted3 .ensures)
       (onwards n (upright-on _ l a _ _ _ _ n (c .before .before .before .before .before .judge .result) _ (c .before .before .before .before .before .judge .ensures l a r (n .tale) (n .said) (newly-hearing _ l a _ _ _ _ n) (λ h. c .before .before .before .before .before .before .index-of .ensures ∙ newly-index _ l a _ _ _ _ n h) (n .known .path)) (c .before .before .before .before .if2 .left) (c .before .before .before .path-after .ensures .0 l a r (n .tale) (n .said) (newly-hearing _ l a _ _ _ _ n) (newly-path _ l a _ _ _ _ n) (newly-here _ l a _ _ _ _ n) (n .known .path)))),
 )

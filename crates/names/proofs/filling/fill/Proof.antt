@@ -8,9 +8,11 @@ use borrow.Author.Needs.{needs}
 use lib.ListN.{length, length-set}
 use Rattle.grammar.specs.Table.{Said}
 use Rattle.notation.specs.Sayings.{Saying}
+use Rattle.recognise.specs.Tape.{Tape}
 use Rattle.names.specs.Walking.{Bounded}
 use Rattle.names.specs.Answers.{Accepted}
-use Rattle.names.specs.Tables.{Roomy, Ready, moreOf}
+use Rattle.names.specs.Tables.{Roomy, moreOf}
+use Rattle.recognise.proofs.Tapes.{tape-kept}
 use Rattle.names.proofs.Halfway.{Halfway, all-told, newly, halfway-start, onwards}
 use Rattle.names.proofs.Walks.{further}
 use Rattle.names.proofs.OneRow.{Rowed, nothing-rowed, roomy-more, sort-within, filled-on, filled-same, overfull, not-whole}
@@ -20,7 +22,7 @@ use Rattle.names.proofs.filling.fill.Tie as tie
 abbrev Inv-loop : tie.InvT-loop
 Inv-loop text from₀ to₀ owner₀ lists₀ w₀ t₀ from to owner lists w t =
     Bounded w × Roomy t × (t .whole ≡ true)
-    × ((l : List (Said Saying)) → length from₀ ≡ 704 → length to₀ ≡ 704 → length owner₀ ≡ 704 → Accepted text l → (length from ≡ 704) × (length to ≡ 704) × (length owner ≡ 704) × Halfway text lists w l (Rowed text from to owner t))
+    × ((l : List (Said Saying)) → length from₀ ≡ 704 → length to₀ ≡ 704 → length owner₀ ≡ 10525 → Accepted text l → Tape text owner₀ → (length from ≡ 704) × (length to ≡ 704) × (length owner ≡ 10525) × Tape text owner × Halfway text lists w l (Rowed text from to owner t))
 
 abbrev μ-loop : tie.MeasureT-loop
 μ-loop text from₀ to₀ owner₀ lists₀ w₀ t₀ from to owner lists w t = 18446744073709551616 - w .cursor .at
@@ -33,15 +35,14 @@ loop-holds c = (
   c .start .ensures .bounded,
   record { commands = omega arith; lookups = omega arith; variables = omega arith; nodes = omega arith },
   refl,
-  λ l x y z a. (x, y, z, halfway-start _ _ (c .start .result) (c .start .ensures) refl l a (nothing-rowed _ _ _ _)),
+  λ l x y z a k. (x, y, z, k, halfway-start _ _ _ (c .start .result) (c .start .ensures) refl l a k (nothing-rowed _ _ _ _)),
 )
 
 step-requires : tie.Need-step-requires Inv-loop μ-loop
-step-requires c κs = c .before .loop .inv .0
+step-requires c κs = c .before .before .loop .inv .0
 
 returns : tie.Need-returns Inv-loop μ-loop
-unfolding Ready
-returns c = λ l x y z a. record { ready = λ e. all-told _ _ _ _ _ (c .before .step .ensures) l a (c .if1 .taken) ((c .before .before .before .loop .inv .3 l x y z a) .3) .1; within = λ h. c .before .before .before .loop .inv .2 }
+returns c = λ l x y z a k. record { ready = record { tabled = λ e. all-told _ _ _ _ _ _ (c .before .step .ensures) l a (c .before .before .before .before .loop .inv .3 l x y z a k .3) (c .if1 .taken) (c .before .before .before .before .loop .inv .3 l x y z a k .4) .1; tape = c .before .before .before .before .loop .inv .3 l x y z a k .3 }; within = λ h. c .before .before .before .before .loop .inv .2 }
 
 sort-of-requires : tie.Need-sort-of-requires Inv-loop μ-loop
 sort-of-requires c κs = search needs
@@ -53,8 +54,7 @@ room-of-requires : tie.Need-room-of-requires Inv-loop μ-loop
 room-of-requires c κs = search needs
 
 returns-2 : tie.Need-returns-2 Inv-loop μ-loop
-unfolding Ready
-returns-2 c = λ l x y z a. record { ready = λ e. absurd (not-whole e); within = λ h. absurd (overfull (newly _ _ _ _ _ (c .before .before .before .before .before .before .step .ensures) l a (c .before .before .before .before .before .if1 .left) ((c .before .before .before .before .before .before .before .before .loop .inv .3 l x y z a) .3)) (c .before .before .before .before .sort-of .result) (c .before .before .before .if2 .taken) (sym (c .before .before .before .before .sort-of .ensures)) (rw (c .before .room-of .ensures, c .before .before .count-of .ensures) at (c .if3 .taken)) h) }
+returns-2 c = λ l x y z a k. record { ready = record { tabled = λ e. absurd (not-whole e); tape = c .before .before .before .before .before .before .before .before .before .loop .inv .3 l x y z a k .3 }; within = λ h. absurd (overfull (newly _ _ _ _ _ _ (c .before .before .before .before .before .before .step .ensures) l a (c .before .before .before .before .before .before .before .before .before .loop .inv .3 l x y z a k .3) (c .before .before .before .before .before .if1 .left) (c .before .before .before .before .before .before .before .before .before .loop .inv .3 l x y z a k .4)) (c .before .before .before .before .sort-of .result) (c .before .before .before .if2 .taken) (sym (c .before .before .before .before .sort-of .ensures)) (rw (c .before .room-of .ensures, c .before .before .count-of .ensures) at (c .if3 .taken)) h) }
 
 base-of-requires : tie.Need-base-of-requires Inv-loop μ-loop
 base-of-requires c κs = search needs
@@ -66,40 +66,41 @@ put-requires : tie.Need-put-requires Inv-loop μ-loop
 put-requires c κs = omega (arith, sort-within (c .before .before .before .before .before .before .before .before .sort-of .result) (c .before .before .before .before .before .before .before .if2 .taken), c .before .before .before .base-of .ensures, c .before .before .before .before .before .before .count-of .ensures, c .before .before .before .before .before .room-of .ensures, c .before .before .before .before .if3 .left)
 
 one-more-requires : tie.Need-one-more-requires Inv-loop μ-loop
-one-more-requires c κs = c .before .before .before .before .before .before .before .before .before .before .before .before .before .loop .inv .1
+one-more-requires c κs = c .before .before .before .before .before .before .before .before .before .before .before .before .before .before .loop .inv .1
 
 loop-less : tie.Need-loop-less Inv-loop μ-loop
-loop-less c = omega (arith, further (c .before .before .before .before .before .before .before .before .before .before .before .before .step .ensures) (c .before .before .before .before .before .before .before .before .before .before .before .if1 .left), c .before .before .before .before .before .before .before .before .before .before .before .before .before .before .loop .inv .0 .place)
+loop-less c = omega (arith, further (c .before .before .before .before .before .before .before .before .before .before .before .before .step .ensures) (c .before .before .before .before .before .before .before .before .before .before .before .if1 .left), c .before .before .before .before .before .before .before .before .before .before .before .before .before .before .before .loop .inv .0 .place)
 
 loop-again : tie.Need-loop-again Inv-loop μ-loop
 unfolding moreOf
 loop-again c = (
   c .before .before .before .before .before .before .before .before .before .before .before .before .step .ensures .bounded,
-  rw (c .one-more .ensures) (roomy-more _ (c .before .before .before .before .before .before .before .before .before .before .sort-of .result) (c .before .before .before .before .before .before .before .before .before .if2 .taken) (c .before .before .before .before .before .before .before .before .before .before .before .before .before .before .loop .inv .1) (rw (c .before .before .before .before .before .before .before .before .count-of .ensures, c .before .before .before .before .before .before .before .room-of .ensures) at (c .before .before .before .before .before .before .if3 .left))),
-  rw (c .one-more .ensures) (c .before .before .before .before .before .before .before .before .before .before .before .before .before .before .loop .inv .2),
-  λ l x y z a.
-      let i = c .before .before .before .before .before .before .before .before .before .before .before .before .before .before .loop .inv .3 l x y z a in
-      let n = newly _ _ _ _ _ (c .before .before .before .before .before .before .before .before .before .before .before .before .step .ensures) l a (c .before .before .before .before .before .before .before .before .before .before .before .if1 .left) ((c .before .before .before .before .before .before .before .before .before .before .before .before .before .before .loop .inv .3 l x y z a) .3) in (
+  rw (c .one-more .ensures) (roomy-more _ (c .before .before .before .before .before .before .before .before .before .before .sort-of .result) (c .before .before .before .before .before .before .before .before .before .if2 .taken) (c .before .before .before .before .before .before .before .before .before .before .before .before .before .before .before .loop .inv .1) (rw (c .before .before .before .before .before .before .before .before .count-of .ensures, c .before .before .before .before .before .before .before .room-of .ensures) at (c .before .before .before .before .before .before .if3 .left))),
+  rw (c .one-more .ensures) (c .before .before .before .before .before .before .before .before .before .before .before .before .before .before .before .loop .inv .2),
+  λ l x y z a k.
+      let i = c .before .before .before .before .before .before .before .before .before .before .before .before .before .before .before .loop .inv .3 l x y z a k in
+      let n = newly _ _ _ _ _ _ (c .before .before .before .before .before .before .before .before .before .before .before .before .step .ensures) l a (c .before .before .before .before .before .before .before .before .before .before .before .before .before .before .before .loop .inv .3 l x y z a k .3) (c .before .before .before .before .before .before .before .before .before .before .before .if1 .left) (c .before .before .before .before .before .before .before .before .before .before .before .before .before .before .before .loop .inv .3 l x y z a k .4) in (
         rw (c .before .put .ensures .0, length-set) (i .0),
         rw (c .before .put .ensures .1, length-set) (i .1),
         rw (c .before .put .ensures .2, length-set) (i .2),
+        rw (c .before .put .ensures .2) (tape-kept _ _ _ _ (omega (arith, sort-within (c .before .before .before .before .before .before .before .before .before .before .sort-of .result) (c .before .before .before .before .before .before .before .before .before .if2 .taken), c .before .before .before .before .before .base-of .ensures, c .before .before .before .before .before .before .before .before .count-of .ensures, c .before .before .before .before .before .before .before .room-of .ensures, c .before .before .before .before .before .before .if3 .left)) (i .3)),
         rw (c .before .put .ensures .0, c .before .put .ensures .1, c .before .put .ensures .2, c .one-more .ensures, c .before .before .before .before .before .base-of .ensures, c .before .before .before .before .before .before .before .before .count-of .ensures)
             (onwards n (filled-on n (c .before .before .before .before .before .before .before .before .before .before .sort-of .result) (c .before .before .before .before .before .before .before .before .before .if2 .taken) (sym (c .before .before .before .before .before .before .before .before .before .before .sort-of .ensures)) (i .0) (i .1) (i .2) (rw (c .before .before .before .before .before .before .before .before .count-of .ensures, c .before .before .before .before .before .before .before .room-of .ensures) at (c .before .before .before .before .before .before .if3 .left)) (c .before .before .before .before .before .before .before .before .before .before .before .before .step .ensures .ordered) (c .before .before .before .before .before .before .before .before .before .before .before .before .step .ensures .within))),
       ),
 )
 
 loop-less-2 : tie.Need-loop-less-2 Inv-loop μ-loop
-loop-less-2 c = omega (arith, further (c .before .before .before .step .ensures) (c .before .before .if1 .left), c .before .before .before .before .before .loop .inv .0 .place)
+loop-less-2 c = omega (arith, further (c .before .before .before .step .ensures) (c .before .before .if1 .left), c .before .before .before .before .before .before .loop .inv .0 .place)
 
 loop-again-2 : tie.Need-loop-again-2 Inv-loop μ-loop
 loop-again-2 c = (
   c .before .before .before .step .ensures .bounded,
-  c .before .before .before .before .before .loop .inv .1,
-  c .before .before .before .before .before .loop .inv .2,
-  λ l x y z a.
-      let i = c .before .before .before .before .before .loop .inv .3 l x y z a in
-      let n = newly _ _ _ _ _ (c .before .before .before .step .ensures) l a (c .before .before .if1 .left) ((c .before .before .before .before .before .loop .inv .3 l x y z a) .3) in
-      (i .0, i .1, i .2, onwards n (filled-same n (rw (c .before .sort-of .ensures) at (c .if2 .left)))),
+  c .before .before .before .before .before .before .loop .inv .1,
+  c .before .before .before .before .before .before .loop .inv .2,
+  λ l x y z a k.
+      let i = c .before .before .before .before .before .before .loop .inv .3 l x y z a k in
+      let n = newly _ _ _ _ _ _ (c .before .before .before .step .ensures) l a (c .before .before .before .before .before .before .loop .inv .3 l x y z a k .3) (c .before .before .if1 .left) (c .before .before .before .before .before .before .loop .inv .3 l x y z a k .4) in
+      (i .0, i .1, i .2, i .3, onwards n (filled-same n (rw (c .before .sort-of .ensures) at (c .if2 .left)))),
 )
 
 pub fill-spec : {M : Type 1} → statement M

@@ -7,6 +7,7 @@ use borrow.Author.Needs.{needs}
 use lib.ListN.{length}
 use Rattle.grammar.specs.Table.{Said}
 use Rattle.notation.specs.Sayings.{Saying}
+use Rattle.recognise.specs.Tape.{Tape}
 use Rattle.names.specs.Walking.{Bounded}
 use Rattle.names.specs.Answers.{Accepted}
 use Rattle.names.proofs.Halfway.{Halfway, all-told, newly, halfway-start, onwards}
@@ -16,22 +17,22 @@ use Rattle.names.proofs.kinds.fill_kinds.Statement.{statement}
 use Rattle.names.proofs.kinds.fill_kinds.Tie as tie
 
 abbrev Inv-loop : tie.InvT-loop
-Inv-loop text kind₀ lists₀ w₀ n₀ kind lists w n = Bounded w × ((l : List (Said Saying)) → length kind₀ ≡ 704 → Accepted text l → Halfway text lists w l (Kinding kind₀ kind n))
+Inv-loop text owner kind₀ lists₀ w₀ n₀ kind lists w n = Bounded w × ((l : List (Said Saying)) → length kind₀ ≡ 704 → Accepted text l → Tape text owner → Halfway text lists w l (Kinding kind₀ kind n))
 
 abbrev μ-loop : tie.MeasureT-loop
-μ-loop text kind₀ lists₀ w₀ n₀ kind lists w n = 18446744073709551616 - w .cursor .at
+μ-loop text owner kind₀ lists₀ w₀ n₀ kind lists w n = 18446744073709551616 - w .cursor .at
 
 start-requires : tie.Need-start-requires Inv-loop μ-loop
 start-requires c κs = search needs
 
 loop-holds : tie.Need-loop-holds Inv-loop μ-loop
-loop-holds c = (c .start .ensures .bounded, λ l x a. halfway-start _ _ (c .start .result) (c .start .ensures) refl l a (tabled-none _ x))
+loop-holds c = (c .start .ensures .bounded, λ l x a k. halfway-start _ _ _ (c .start .result) (c .start .ensures) refl l a k (tabled-none _ x))
 
 step-requires : tie.Need-step-requires Inv-loop μ-loop
 step-requires c κs = c .before .loop .inv .0
 
 returns : tie.Need-returns Inv-loop μ-loop
-returns c l x a = kinded _ l _ _ _ a (all-told _ _ _ _ _ (c .before .step .ensures) l a (c .if1 .taken) (c .before .before .before .loop .inv .1 l x a) .1)
+returns c l x a k = kinded _ l _ _ _ a (all-told _ _ _ _ _ _ (c .before .step .ensures) l a k (c .if1 .taken) (c .before .before .before .loop .inv .1 l x a k) .1)
 
 add-j : tie.Need-add-j Inv-loop μ-loop
 add-j c = search needs
@@ -54,7 +55,7 @@ loop-less c = omega (arith, further (c .before .before .before .before .before .
 loop-again : tie.Need-loop-again Inv-loop μ-loop
 loop-again c = (
   c .before .before .before .before .before .step .ensures .bounded,
-  λ l x a. let n = newly _ _ _ _ _ (c .before .before .before .before .before .step .ensures) l a (c .before .before .before .before .if1 .left) (c .before .before .before .before .before .before .before .loop .inv .1 l x a) in onwards n (kinding-more _ _ _ n _ (c .before .before .before .if2 .taken) (c .before .before .if3 .taken) (c .kind-said .ensures)),
+  λ l x a k. let n = newly _ _ _ _ _ _ (c .before .before .before .before .before .step .ensures) l a k (c .before .before .before .before .if1 .left) (c .before .before .before .before .before .before .before .loop .inv .1 l x a k) in onwards n (kinding-more _ _ _ n _ (c .before .before .before .if2 .taken) (c .before .before .if3 .taken) (c .kind-said .ensures)),
 )
 
 loop-less-2 : tie.Need-loop-less-2 Inv-loop μ-loop
@@ -63,7 +64,7 @@ loop-less-2 c = omega (arith, further (c .before .before .before .step .ensures)
 loop-again-2 : tie.Need-loop-again-2 Inv-loop μ-loop
 loop-again-2 c = (
   c .before .before .before .step .ensures .bounded,
-  λ l x a. let n = newly _ _ _ _ _ (c .before .before .before .step .ensures) l a (c .before .before .if1 .left) (c .before .before .before .before .before .loop .inv .1 l x a) in onwards n (kinding-full _ _ _ n (c .before .if2 .taken) (c .if3 .left)),
+  λ l x a k. let n = newly _ _ _ _ _ _ (c .before .before .before .step .ensures) l a k (c .before .before .if1 .left) (c .before .before .before .before .before .loop .inv .1 l x a k) in onwards n (kinding-full _ _ _ n (c .before .if2 .taken) (c .if3 .left)),
 )
 
 loop-less-3 : tie.Need-loop-less-3 Inv-loop μ-loop
@@ -72,7 +73,7 @@ loop-less-3 c = omega (arith, further (c .before .before .step .ensures) (c .bef
 loop-again-3 : tie.Need-loop-again-3 Inv-loop μ-loop
 loop-again-3 c = (
   c .before .before .step .ensures .bounded,
-  λ l x a. let n = newly _ _ _ _ _ (c .before .before .step .ensures) l a (c .before .if1 .left) (c .before .before .before .before .loop .inv .1 l x a) in onwards n (kinding-same _ _ _ n (c .if2 .left)),
+  λ l x a k. let n = newly _ _ _ _ _ _ (c .before .before .step .ensures) l a k (c .before .if1 .left) (c .before .before .before .before .loop .inv .1 l x a k) in onwards n (kinding-same _ _ _ n (c .if2 .left)),
 )
 
 pub fill-kinds-spec : {M : Type 1} → statement M

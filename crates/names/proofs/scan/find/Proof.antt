@@ -8,6 +8,7 @@ use borrow.Author.Needs.{needs}
 use Rattle.grammar.specs.Table.{Said}
 use Rattle.notation.specs.Sayings.{Saying}
 use Rattle.names.specs.Seek.{seek}
+use Rattle.recognise.specs.Tape.{Tape}
 use Rattle.names.specs.Walking.{Bounded}
 use Rattle.names.specs.Answers.{Accepted, foundOf}
 use Rattle.names.proofs.Halfway.{Halfway, all-told, newly, halfway-start, onwards}
@@ -17,11 +18,11 @@ use Rattle.names.proofs.scan.find.Statement.{statement}
 use Rattle.names.proofs.scan.find.Tie as tie
 
 abbrev Inv-loop : tie.InvT-loop
-Inv-loop text sort m x lists₀ w₀ count₀ lists w count =
-    Bounded w × (count ≤ w .cursor .at) × ((l : List (Said Saying)) → Accepted text l → Halfway text lists w l (Seeking sort m x count))
+Inv-loop text owner sort m x lists₀ w₀ count₀ lists w count =
+    Bounded w × (count ≤ w .cursor .at) × ((l : List (Said Saying)) → Accepted text l → Tape text owner → Halfway text lists w l (Seeking sort m x count))
 
 abbrev μ-loop : tie.MeasureT-loop
-μ-loop text sort m x lists₀ w₀ count₀ lists w count = 18446744073709551616 - w .cursor .at
+μ-loop text owner sort m x lists₀ w₀ count₀ lists w count = 18446744073709551616 - w .cursor .at
 
 start-requires : tie.Need-start-requires Inv-loop μ-loop
 start-requires c κs = search needs
@@ -30,7 +31,7 @@ loop-holds : tie.Need-loop-holds Inv-loop μ-loop
 loop-holds c = (
   c .start .ensures .bounded,
   omega arith,
-  λ l a. halfway-start _ _ (c .start .result) (c .start .ensures) refl l a (nothing-told (c .before .before .before .args .sort) (c .before .before .before .args .m) (c .before .before .before .args .x .now) (c .before .before .before .pre)),
+  λ l a k. halfway-start _ _ _ (c .start .result) (c .start .ensures) refl l a k (nothing-told (c .before .before .before .args .sort) (c .before .before .before .args .m) (c .before .before .before .args .x .now) (c .before .before .before .pre)),
 )
 
 step-requires : tie.Need-step-requires Inv-loop μ-loop
@@ -41,7 +42,7 @@ found-nowhere-requires c κs = search needs
 
 returns : tie.Need-returns Inv-loop μ-loop
 unfolding seek
-returns c = (λ l a. c .found-nowhere .ensures ∙ ap foundOf (sym (all-told _ _ _ _ _ (c .before .before .step .ensures) l a (c .before .if1 .taken) (c .before .before .before .before .loop .inv .2 l a) .1 .1)), small-nowhere (c .found-nowhere .ensures))
+returns c = (λ l a k. c .found-nowhere .ensures ∙ ap foundOf (sym (all-told _ _ _ _ _ _ (c .before .before .step .ensures) l a k (c .before .if1 .taken) (c .before .before .before .before .loop .inv .2 l a k) .1 .1)), small-nowhere (c .found-nowhere .ensures))
 
 sort-of-requires : tie.Need-sort-of-requires Inv-loop μ-loop
 sort-of-requires c κs = search needs
@@ -53,7 +54,7 @@ found-at-requires : tie.Need-found-at-requires Inv-loop μ-loop
 found-at-requires c κs = search needs
 
 returns-2 : tie.Need-returns-2 Inv-loop μ-loop
-returns-2 c = (λ l a. c .found-at .ensures ∙ ap foundOf (sym (hit _ _ _ _ (c .before .before .before .before .before .before .before .before .before .before .before .before .pre) (newly _ _ _ _ _ (c .before .before .before .before .before .before .step .ensures) l a (c .before .before .before .before .before .if1 .left) (c .before .before .before .before .before .before .before .before .loop .inv .2 l a)) (sym (c .before .before .before .before .sort-of .ensures) ∙ c .before .before .before .if2 .taken) (sym (c .before .before .is-called .ensures) ∙ c .before .if3 .taken))), small-at _ (c .found-at .ensures) (omega (arith, further (c .before .before .before .before .before .before .step .ensures) (c .before .before .before .before .before .if1 .left), c .before .before .before .before .before .before .step .ensures .bounded .place, c .before .before .before .before .before .before .before .before .loop .inv .1)))
+returns-2 c = (λ l a k. c .found-at .ensures ∙ ap foundOf (sym (hit _ _ _ _ (c .before .before .before .before .before .before .before .before .before .before .before .before .pre) (newly _ _ _ _ _ _ (c .before .before .before .before .before .before .step .ensures) l a k (c .before .before .before .before .before .if1 .left) (c .before .before .before .before .before .before .before .before .loop .inv .2 l a k)) (sym (c .before .before .before .before .sort-of .ensures) ∙ c .before .before .before .if2 .taken) (sym (c .before .before .is-called .ensures) ∙ c .before .if3 .taken))), small-at _ (c .found-at .ensures) (omega (arith, further (c .before .before .before .before .before .before .step .ensures) (c .before .before .before .before .before .if1 .left), c .before .before .before .before .before .before .step .ensures .bounded .place, c .before .before .before .before .before .before .before .before .loop .inv .1)))
 
 add-count : tie.Need-add-count Inv-loop μ-loop
 add-count c = omega (arith, further (c .before .before .before .before .before .step .ensures) (c .before .before .before .before .if1 .left), c .before .before .before .before .before .step .ensures .bounded .place, c .before .before .before .before .before .before .before .loop .inv .1)
@@ -62,13 +63,13 @@ loop-less : tie.Need-loop-less Inv-loop μ-loop
 loop-less c = omega (arith, further (c .before .before .before .before .before .step .ensures) (c .before .before .before .before .if1 .left), c .before .before .before .before .before .before .before .loop .inv .0 .place)
 
 loop-again : tie.Need-loop-again Inv-loop μ-loop
-loop-again c = (c .before .before .before .before .before .step .ensures .bounded, omega (arith, further (c .before .before .before .before .before .step .ensures) (c .before .before .before .before .if1 .left), c .before .before .before .before .before .before .before .loop .inv .1), λ l a. let n = newly _ _ _ _ _ (c .before .before .before .before .before .step .ensures) l a (c .before .before .before .before .if1 .left) (c .before .before .before .before .before .before .before .loop .inv .2 l a) in onwards n (miss _ _ _ _ (c .before .before .before .before .before .before .before .before .before .before .before .pre) n (sym (c .before .before .before .sort-of .ensures) ∙ c .before .before .if2 .taken) (sym (c .before .is-called .ensures) ∙ c .if3 .left)))
+loop-again c = (c .before .before .before .before .before .step .ensures .bounded, omega (arith, further (c .before .before .before .before .before .step .ensures) (c .before .before .before .before .if1 .left), c .before .before .before .before .before .before .before .loop .inv .1), λ l a k. let n = newly _ _ _ _ _ _ (c .before .before .before .before .before .step .ensures) l a k (c .before .before .before .before .if1 .left) (c .before .before .before .before .before .before .before .loop .inv .2 l a k) in onwards n (miss _ _ _ _ (c .before .before .before .before .before .before .before .before .before .before .before .pre) n (sym (c .before .before .before .sort-of .ensures) ∙ c .before .before .if2 .taken) (sym (c .before .is-called .ensures) ∙ c .if3 .left)))
 
 loop-less-2 : tie.Need-loop-less-2 Inv-loop μ-loop
 loop-less-2 c = omega (arith, further (c .before .before .before .step .ensures) (c .before .before .if1 .left), c .before .before .before .before .before .loop .inv .0 .place)
 
 loop-again-2 : tie.Need-loop-again-2 Inv-loop μ-loop
-loop-again-2 c = (c .before .before .before .step .ensures .bounded, omega (arith, further (c .before .before .before .step .ensures) (c .before .before .if1 .left), c .before .before .before .before .before .loop .inv .1), λ l a. let n = newly _ _ _ _ _ (c .before .before .before .step .ensures) l a (c .before .before .if1 .left) (c .before .before .before .before .before .loop .inv .2 l a) in onwards n (pass _ _ _ _ (c .before .before .before .before .before .before .before .before .before .pre) n (λ e. c .if2 .left (c .before .sort-of .ensures ∙ e))))
+loop-again-2 c = (c .before .before .before .step .ensures .bounded, omega (arith, further (c .before .before .before .step .ensures) (c .before .before .if1 .left), c .before .before .before .before .before .loop .inv .1), λ l a k. let n = newly _ _ _ _ _ _ (c .before .before .before .step .ensures) l a k (c .before .before .if1 .left) (c .before .before .before .before .before .loop .inv .2 l a k) in onwards n (pass _ _ _ _ (c .before .before .before .before .before .before .before .before .before .pre) n (λ e. c .if2 .left (c .before .sort-of .ensures ∙ e))))
 
 pub find-spec : {M : Type 1} → statement M
 find-spec =

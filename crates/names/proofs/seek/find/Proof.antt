@@ -38,7 +38,7 @@ find-requires-2 : tie.Need-find-requires-2
 find-requires-2 c κs = search needs
 
 returns-3 : tie.Need-returns-3
-returns-3 c = (λ l a r. c .find2 .ensures .0 l a, c .find2 .ensures .1)
+returns-3 c = (λ l a r. c .find2 .ensures .0 l a (r .tape), c .find2 .ensures .1)
 
 pub find-spec : {M : Type 1} → statement M
 find-spec =

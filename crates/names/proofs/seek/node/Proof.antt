@@ -24,7 +24,7 @@ node-requires : tie.Need-node-requires
 node-requires c κs = search needs
 
 returns-4 : tie.Need-returns-4
-returns-4 c = (λ l a r. c .node .ensures .0 l a, c .node .ensures .1)
+returns-4 c = (λ l a r. c .node .ensures .0 l a (r .tape), c .node .ensures .1)
 
 pub node-spec : {M : Type 1} → statement M
 node-spec =

@@ -8,7 +8,7 @@ begin-requires : tie.Need-begin-requires
 begin-requires c κs = tt
 
 returns : tie.Need-returns
-returns c = begun (c .begin .result) (c .begin .ensures) (omega (arith, c .begin .ok))
+returns c = begun _ (c .begin .result) (c .begin .ensures) (omega (arith, c .begin .ok))
 
 pub start-spec : {M : Type 1} → statement M
 start-spec = tie.close (tie.spec begin-requires returns)
