@@ -11,11 +11,11 @@ use Rattle.plexil.specs.Lists.{renew, put}
 use Rattle.plexil.specs.Image.{Image, nodeCount}
 use Rattle.plexil.specs.Places.{stateOf}
 use Rattle.plexil.specs.Micro.{sent, wordOf, wordsFrom, words, quiet, step}
-use Rattle.plexil.specs.Order.{Carry, carryNothing, settle}
+use Rattle.plexil.specs.Order.{Carry, carryNothing, walkTo, settle}
 use Rattle.plexil.specs.Promises.{IsAdmitted, IsKept, Sized}
 use Rattle.plexil.proofs.ListLaws.{if-true, if-false, renew-at}
 use Rattle.plexil.proofs.Visit.{Lengths}
-use Rattle.plexil.proofs.NodeOrder.{walkTo, walkTo-lengths, node-order}
+use Rattle.plexil.proofs.NodeOrder.{walkTo-lengths, node-order}
 use Rattle.micro.specs.declared.steps.Stepped.{Stepped}
 use Rattle.micro.specs.declared.steps.StepEnd.the-variants.{Quiet, NoRoom, Done}
 use Rattle.micro.specs.Stepped.{steppedOf, partAfter}

@@ -3,7 +3,7 @@ use Prim.Native.Nat.{ℕ, _≤_, _<_}
 use mathlib.Core.Path.{_≡_, refl, sym, ap, _∙_}
 use mathlib.Core.Logic.{⊎-elim}
 use mathlib.Core.Bool.{Bool, true, not, Bool·not-not}
-use mathlib.Core.List.{List, [], _∷_}
+use mathlib.Core.List.{[], _∷_}
 use native.Mathlib.Omega.{arith}
 use lib.ListN.{getD}
 use lib.Dec.{eqb, ltb}
@@ -18,9 +18,9 @@ use Rattle.plexil.specs.Places.{same, statusAt, initial, varCell, Failur
 use Rattle.plexil.specs.Records.{isList, isAssignment, goodWhat, goodNode}
 use Rattle.plexil.specs.Atomic.{moveOf}
 use Rattle.plexil.specs.Micro.{writes, loses, place, outcomeAfter, failureAfter, entersWaiting, unwritten, varAfter, step}
-use Rattle.plexil.specs.Order.{Carry, carryNothing, walk, wrote, leads, lost, enteredWaiting, settledVar, settle, NamesOnce}
+use Rattle.plexil.specs.Order.{Carry, carryNothing, walk, wrote, leads, lost, enteredWaiting, settledVar, settle}
 use Rattle.plexil.specs.Form.{ofType, goodPlace, goodState}
-use Rattle.plexil.specs.Promises.{IsAdmitted, IsKept, Sized, AnyOrder}
+use Rattle.plexil.specs.Promises.{IsAdmitted, IsKept, Sized, FromKept, AnyOrder}
 use Rattle.plexil.proofs.ListLaws.{tested, every-at, every-cons, every-stop, every-one, some-cons, some-one, allBelow-at}
 use Rattle.plexil.proofs.RenewLaws.{is-renew, renew-same}
 use Rattle.plexil.proofs.Admitted.{few-nodes, few-vars, owner-below, good-node}
@@ -101,7 +101,7 @@ module _ (p : Image) (s : State) (ok : Fits p s) (z : Sized s) (c : Carry) (k : 
   }
 
 -- the stronger form: the plan need not be admitted, nor the state kept
-pub any-order-of : (p : Image) (s : State) → Fits p s → Sized s → (order : List ℕ) → NamesOnce p order → settle p s (walk p s order (carryNothing s)) ≡ step p s
+pub any-order-of : (p : Image) (s : State) → Fits p s → Sized s → AnyOrder p s
 any-order-of p s ok z order h = settle-step p s ok z (walk p s order (carryNothing s)) (walked p s (ok .nodes) order h z)
 
 -- ---- an admitted plan and a kept state
@@ -122,5 +122,5 @@ fits p s a kept = record {
   finishing = λ i b. every-at _ 0 (every-at _ 4 (allBelow-at (nodeCount p) (goodPlace p s) (every-at _ 0 kept) i b));
 }
 
-pub any-order : AnyOrder
-any-order p s a kept z order h = any-order-of p s (fits p s a kept) z order h
+pub any-order : FromKept (λ p s. Sized s → AnyOrder p s)
+any-order p s a kept = any-order-of p s (fits p s a kept)

@@ -18,11 +18,11 @@ use Rattle.plexil.specs.Records.{goodConstant, goodVariable, isAssignmen
 use Rattle.plexil.specs.Atomic.{moveOf}
 use Rattle.plexil.specs.Micro.{writes, written, wins, entersWaiting, unwritten, writtenBelow, varAfter, step}
 use Rattle.plexil.specs.Form.{goodCell, hasKind, unusedEmpty, goodState}
+use Rattle.plexil.specs.Kinds.{Has, unknown, bool, int, real}
 use Rattle.plexil.specs.Promises.{IsAdmitted, IsKept}
 use Rattle.plexil.proofs.ListLaws.{if-either, every-at, allBelow-at, allBelow-all, renew-at}
 use Rattle.plexil.proofs.Admitted.{good-variable}
 use Rattle.plexil.proofs.UnusedPlaces.{zeroFrom-renew}
-use Rattle.plexil.proofs.OperatorKinds.{Has, unknown, bool, int, real}
 use Rattle.plexil.proofs.NoClash.{assigned-has}
 
 -- ---- good cells

@@ -15,10 +15,11 @@ use Rattle.plexil.specs.Expressions.{Leaf, constantOp, variableOp, looku
 use Rattle.plexil.specs.Records.{operand, reads, asks, goodLeaf, takes, kindOfA, goodBinary, goodOperator, goodExpression}
 use Rattle.plexil.specs.Scope.{operandsPass, depthWithin}
 use Rattle.plexil.specs.Form.{goodState}
+use Rattle.plexil.specs.Kinds.{Has, bool}
 use Rattle.plexil.specs.Promises.{IsAdmitted, IsKept}
 use Rattle.plexil.proofs.ListLaws.{every-at, allBelow-at}
 use Rattle.plexil.proofs.Admitted.{good-expression}
-use Rattle.plexil.proofs.OperatorKinds.{Has, bool, constant-has, cell-has, not-has, junction-has, eq-has, compares-has, computes-has}
+use Rattle.plexil.proofs.OperatorKinds.{constant-has, cell-has, not-has, junction-has, eq-has, compares-has, computes-has}
 
 -- ---- an entry by itself
 -- each operand of entry e has the property

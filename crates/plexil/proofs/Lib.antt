@@ -39,6 +39,7 @@ pub mod StepKept
 pub mod SizesKept
 pub mod Sessions
 pub mod NeverState
+pub mod Demand
 pub mod Replies
 pub mod TurnBoth
 pub mod Synchrony

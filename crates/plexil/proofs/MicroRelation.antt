@@ -20,7 +20,7 @@ use Rattle.plexil.specs.Atomic.{moveOf}
 use Rattle.plexil.specs.Micro.{place, outcomeAfter, failureAfter, varAfter, step, stays, quiet}
 use Rattle.plexil.specs.Promises.{IsAdmitted, Sized}
 use Rattle.plexil.specs.Framework.{Environment, Program, joined, programOf, placeAt, cellAt, Atomic, NodeAfter, MemoryAfter, Unaffected, Micro}
-use Rattle.plexil.specs.FrameworkPromises.{StepIsMicro}
+use Rattle.plexil.specs.FrameworkPromises.{MicroOne, StepIsMicro}
 use Rattle.plexil.proofs.ListLaws.{tested, allBelow-not, renew-at}
 use Rattle.plexil.proofs.RenewLaws.{length-renew, renew-past}
 use Rattle.plexil.proofs.Admitted.{few-nodes, few-vars}
@@ -72,7 +72,7 @@ lists-one p s a b x y = λ j. record {
   varbits = made-one _ _ _ _ _ (x .varbits) (y .varbits) j;
 }
 
-pub micro-one : (p : Image) (Γ : Environment) (π a b : Program) → Micro p Γ π a → Micro p Γ π b → a ≡ b
+pub micro-one : MicroOne
 micro-one p Γ π a b m n = lists-one p (joined Γ π) a b (lists-of p Γ π a m) (lists-of p Γ π b n)
 
 -- ---- the step's lists

@@ -12,11 +12,11 @@ use Rattle.plexil.specs.Expressions.{valueOf}
 use Rattle.plexil.specs.Records.{isAssignment}
 use Rattle.plexil.specs.Scope.{shallow, givenPass, ifAssignment, goodKinds}
 use Rattle.plexil.specs.Atomic.{condition}
-use Rattle.plexil.specs.Promises.{IsAdmitted, IsKept, Reads, itself, ofNot, leftOf, rightOf, NoClash}
+use Rattle.plexil.specs.Kinds.{Has, bool, Reads, itself, ofNot, leftOf, rightOf}
+use Rattle.plexil.specs.Promises.{IsAdmitted, IsKept, FromKept, NoClash, EntryHas, ConditionHas, AssignedHas}
 use Rattle.plexil.proofs.ListLaws.{if-either, every-at}
 use Rattle.plexil.proofs.GoodNode.{some-else, allConditions-at, given-below, value-below}
 use Rattle.plexil.proofs.Admitted.{good-node, good-kinds, is-shallow}
-use Rattle.plexil.proofs.OperatorKinds.{Has, bool}
 use Rattle.plexil.proofs.EntryKinds.{Within, operands-within, eval-has}
 
 -- ---- every entry read
@@ -33,8 +33,11 @@ shallow-within : (p : Image) → IsAdmitted p → (e : ℕ) → e < exprCount p 
 unfolding shallow
 shallow-within p a e b = record { there = b; deep = is-shallow p a e b }
 
-pub no-clash : NoClash
-no-clash p s a t e k x b r h = clash-has (rw h at (eval-has p a s t k x (reads-within p a r (shallow-within p a e b))))
+pub entry-has : FromKept EntryHas
+entry-has p s a t e k x b r = eval-has p a s t k x (reads-within p a r (shallow-within p a e b))
+
+pub no-clash : FromKept NoClash
+no-clash p s a t e k x b r h = clash-has (rw h at (entry-has p s a t e k x b r))
 
 -- ---- the entries of a node's record
 module _ (p : Image) (a : IsAdmitted p) (i : ℕ) (b : i < nodeCount p) where
@@ -53,18 +56,15 @@ module _ (p : Image) (a : IsAdmitted p) (i : ℕ) (b : i < nodeCount p) where
   value-kind t = eqb-true _ _ (some-else _ _ (every-at _ 1 (good-kinds p a i b)) (rw t))
 
 -- ---- what the rules read
-module _ (p : Image) (s : State) (a : IsAdmitted p) (t : IsKept p s) where
-  value-has : (e : ℕ) → e < exprCount p → Has (resultKind p e) (valueOf p s e)
-  unfolding valueOf
-  value-has e b = eval-has p a s t 12 e (shallow-within p a e b)
+value-has : (p : Image) (s : State) → IsAdmitted p → IsKept p s → (e : ℕ) → e < exprCount p → Has (resultKind p e) (valueOf p s e)
+unfolding valueOf
+value-has p s a t e b = eval-has p a s t 12 e (shallow-within p a e b)
 
-  -- a condition is True, False or Unknown
-  pub condition-has : (i : ℕ) → i < nodeCount p → (c : Condition) → Has 0 (condition p s i c)
-  unfolding condition
-  condition-has i b c =
-      if-either (Has 0) (eqb (conditionField p i c) default) _ _ (λ e. bool)
-      (λ e. rw (given-bool p a i b c e) at (value-has (conditionField p i c) (given-there p a i b c e)))
+pub condition-has : FromKept ConditionHas
+unfolding condition
+condition-has p s a t i b c =
+    if-either (Has 0) (eqb (conditionField p i c) default) _ _ (λ e. bool)
+    (λ e. rw (given-bool p a i b c e) at (value-has p s a t (conditionField p i c) (given-there p a i b c e)))
 
-  -- what an assignment writes has its target's kind
-  pub assigned-has : (i : ℕ) → i < nodeCount p → isAssignment p i ≡ true → Has (varKind p (what p i)) (valueOf p s (valueField p i))
-  assigned-has i b n = rw (value-kind p a i b n) at (value-has (valueField p i) (value-there p a i b n))
+pub assigned-has : FromKept AssignedHas
+assigned-has p s a t i b n = rw (value-kind p a i b n) at (value-has p s a t (valueField p i) (value-there p a i b n))

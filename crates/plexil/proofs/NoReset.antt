@@ -20,7 +20,7 @@ use Rattle.plexil.specs.Scope.{ifAssignment, isAbove, inScope, goodReach
 use Rattle.plexil.specs.Atomic.{isClosing, parentStatus, moveOf}
 use Rattle.plexil.specs.Micro.{isJudged, judges, writes, entersWaiting}
 use Rattle.plexil.specs.Form.{isIdle, allowed}
-use Rattle.plexil.specs.Promises.{IsAdmitted, IsKept, NotWrittenAndReset}
+use Rattle.plexil.specs.Promises.{IsAdmitted, IsKept, FromKept, NotWrittenAndReset}
 use Rattle.plexil.proofs.ListLaws.{not-both, every-at}
 use Rattle.plexil.proofs.Admitted.{good-reach, parent-below}
 use Rattle.plexil.proofs.TestLaws.{given}
@@ -92,7 +92,7 @@ target-in-scope : (p : Image) (s : State) (i : ℕ) → goodReach p i ≡ true �
 unfolding goodReach ifAssignment writes
 target-in-scope p s i g w = every-at _ 1 (given (isAssignment p i) _ (every-at _ 1 g) (every-at _ 0 w))
 
-pub not-written-and-reset : NotWrittenAndReset
+pub not-written-and-reset : FromKept NotWrittenAndReset
 unfolding inScope
 not-written-and-reset p s a k v i w e =
     let r : isAbove p (suc i) (owner p v) i ≡ true = rw (w .target) at (target-in-scope p s i (good-reach p a i (w .within)) (w .writing)) in

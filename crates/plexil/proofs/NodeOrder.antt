@@ -10,17 +10,12 @@ use Rattle.plexil.specs.declared.State.{State}
 use Rattle.plexil.specs.Lists.{if_then_else_, countFrom}
 use Rattle.plexil.specs.Image.{Image, nodeCount}
 use Rattle.plexil.specs.Micro.{step}
-use Rattle.plexil.specs.Order.{Carry, carryNothing, visit, walk, settle, count, NamesOnce}
+use Rattle.plexil.specs.Order.{Carry, carryNothing, visit, walk, walkTo, settle, count, NamesOnce}
 use Rattle.plexil.specs.Promises.{IsAdmitted, IsKept, Sized}
 use Rattle.plexil.proofs.ListLaws.{same?, if-true, if-false}
 use Rattle.plexil.proofs.Visit.{Lengths, visit-lengths}
 use Rattle.plexil.proofs.Walk.{count-nil, count-same, count-other, start-lengths}
 use Rattle.plexil.proofs.AnyOrder.{Fits, fits, any-order-of}
-
--- the visits of nodes 0 to n - 1
-unfoldable pub walkTo : Image → State → Carry → ℕ → Carry
-walkTo p s c zero = c
-walkTo p s c (suc n) = visit p s (walkTo p s c n) n
 
 pub walkTo-zero : (p : Image) (s : State) (c : Carry) → walkTo p s c 0 ≡ c
 unfolding walkTo

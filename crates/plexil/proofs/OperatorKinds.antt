@@ -11,21 +11,15 @@ use mir.Syntax.{w64}
 use mir.Val.{toZ}
 use borrow.Author.Tests.{ltb-true, ltb-false, le-leb, eqb-true}
 use Rattle.plexil.specs.declared.Worked.{Worked}
-use Rattle.plexil.specs.declared.Worked.the-variants.{Unknown, Bool as Flag, Int, Real}
+use Rattle.plexil.specs.declared.Worked.the-variants.{Unknown, Bool as Flag}
 use Rattle.plexil.specs.declared.Cell.{Cell}
 use Rattle.plexil.specs.Lists.{if_then_else_}
 use Rattle.plexil.specs.Values.{inRange, intIn, finite, realIn, known, goodBits, decode, notOf, decides, junction, pairOf, eqOf, numeric}
 use Rattle.plexil.specs.Places.{valueIn}
 use Rattle.plexil.specs.Records.{goodConstant, isNumber}
 use Rattle.plexil.specs.Form.{goodCell, hasKind}
+use Rattle.plexil.specs.Kinds.{Has, unknown, bool, int, real}
 use Rattle.plexil.proofs.ListLaws.{if-either, every-at}
-
--- the value is Unknown or a known one of kind k, which the kind's range or format holds; a Clash has no kind
-pub data Has : ℕ → Worked → Type 0 where
-  unknown : {k : ℕ} → Has k Unknown
-  bool : {b : Bool} → Has 0 (Flag b)
-  int : {z : ℤ} → inRange z ≡ true → Has 1 (Int z)
-  real : {x : Float} → finite x ≡ true → T (fits binary64 x) → Has 2 (Real x)
 
 -- ---- known values
 negative-inRange : (n : ℕ) → n < 2 ^ 63 → inRange (negsuc n) ≡ true

@@ -14,8 +14,9 @@ use Rattle.plexil.specs.Image.{Image, nodeType, nodeCount, parent}
 use Rattle.plexil.specs.Places.{statusCode, same, statusAt}
 use Rattle.plexil.specs.Records.{isList, isAssignment}
 use Rattle.plexil.specs.Atomic.{isClosing, isOff, isResting, children, parentStatus, settled, byStatus, moveBy, moveOf}
+use Rattle.plexil.specs.Micro.{step}
 use Rattle.plexil.specs.Form.{isIdle, allowed}
-use Rattle.plexil.specs.Promises.{ParentTable}
+use Rattle.plexil.specs.Promises.{FromKept, ParentTable}
 use Rattle.plexil.proofs.ListLaws.{if-false, tested, not-both, if-true, allBelow-at}
 use Rattle.plexil.proofs.Admitted.{parent-below, parent-list}
 use Rattle.plexil.proofs.KeptState.{table-of}
@@ -171,7 +172,7 @@ child-rests : (p : Image) (s : State) (i : ℕ) → i < nodeCount p → children
 unfolding children
 child-rests p s i b h = given (eqb (parent p i) (parent p i)) _ (allBelow-at (nodeCount p) _ h i b) (eq-eqb (parent p i) (parent p i) refl)
 
-pub parent-table : ParentTable
+pub parent-table : FromKept (λ p s. ParentTable p (step p s))
 unfolding parentStatus allowed isClosing moveOf same statusCode some if_then_else_
 parent-table p s a k zero b = refl
 parent-table p s a k (suc i) b =

@@ -4,9 +4,11 @@ pub mod Values
 pub mod Image
 pub mod Places
 pub mod Expressions
+pub mod Kinds
 pub mod Records
 pub mod Scope
 pub mod Check
+pub mod CheckPromises
 pub mod Atomic
 pub mod Micro
 pub mod Order

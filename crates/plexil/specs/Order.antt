@@ -1,6 +1,6 @@
 -- "any order is a walk over any list that names each node once": a visit, what it carries on, and the settling. `AnyOrder` (Promises) says
 -- that every such walk ends in the definition's next state.
-use Prim.Native.Nat.{ℕ, suc, _+_}
+use Prim.Native.Nat.{ℕ, zero, suc, _+_}
 use mathlib.Core.Path.{_≡_}
 use mathlib.Core.Bool.{Bool, not}
 use mathlib.Core.List.{List, [], _∷_}
@@ -66,6 +66,11 @@ unfoldable pub walk : Image → State → List ℕ → Carry → Carry
 walk p s [] c = c
 walk p s (i ∷ is) c = walk p s is (visit p s c i)
 
+-- the visits of nodes 0 to n - 1, in node order
+unfoldable pub walkTo : Image → State → Carry → ℕ → Carry
+walkTo p s c zero = c
+walkTo p s c (suc n) = visit p s (walkTo p s c n) n
+
 -- "After the last visit the writes and the losers are settled from what is carried" and the state before the step: node i wrote, that is,
 -- it left Executing for IterationEnded, and not by Invariant or Parent
 unfoldable pub wrote : Image → State → Carry → ℕ → Bool
@@ -114,5 +119,5 @@ NamesOnce p is = (j : ℕ) → count j is ≡ (if ltb j (nodeCount p) then 1 els
 
 -- opens every definition of this file
 unfoldable pub opened : Unit {0}
-unfolding carryNothing putPlace meet visit walk wrote leads lost enteredWaiting settledVar settle count NamesOnce
+unfolding carryNothing putPlace meet visit walk walkTo wrote leads lost enteredWaiting settledVar settle count NamesOnce
 opened = tt

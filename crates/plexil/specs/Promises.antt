@@ -1,5 +1,5 @@
--- Demand 3 in statements: what holds of an admitted plan, in every session and from every kept state that passes 30. proofs/ proves each.
-use Prim.Native.Nat.{ℕ, suc, _<_}
+-- Demand 3 as one statement, `Demand3`, and its parts: what holds of an admitted plan, in every session and from every kept state that passes 30.
+use Prim.Native.Nat.{ℕ, _<_, _≤_}
 use mathlib.Core.Path.{_≡_}
 use mathlib.Core.Logic.{_≢_}
 use mathlib.Core.Bool.{true}
@@ -8,14 +8,18 @@ use lib.ListN.{length}
 use Rattle.plexil.specs.declared.Worked.the-variants.{Clash}
 use Rattle.plexil.specs.declared.State.{State}
 use Rattle.plexil.specs.declared.Card.{Card}
+use Rattle.plexil.specs.declared.Condition.{Condition}
 use Rattle.plexil.specs.declared.Verdict.the-variants.{Admitted}
 use Rattle.plexil.specs.declared.Tested.the-variants.{Accepted}
-use Rattle.plexil.specs.Image.{Image, nodeCount, exprCount, priority, what, owner, operandA, operandB}
-use Rattle.plexil.specs.Places.{statusAt, varCell, initial, freshState, freshCard, Failure, WriteLost}
-use Rattle.plexil.specs.Expressions.{notOp, binary, Binary, operatorAt, evalOf}
+use Rattle.plexil.specs.Image.{Image, nodeCount, exprCount, varCount, priority, what, valueField, owner, resultKind, varKind}
+use Rattle.plexil.specs.Places.{statusAt, outcomeAt, failureAt, varCell, initial, freshState, freshCard, Failure, WriteLost}
+use Rattle.plexil.specs.Expressions.{evalOf, valueOf}
+use Rattle.plexil.specs.Kinds.{Has, Reads}
+use Rattle.plexil.specs.Records.{isAssignment}
 use Rattle.plexil.specs.Check.{verdict}
-use Rattle.plexil.specs.Atomic.{parentStatus, moveOf}
-use Rattle.plexil.specs.Micro.{writes, written, outcomeAfter, failureAfter, entersWaiting, varAfter, step}
+use Rattle.plexil.specs.CheckPromises.{RefusedExact, AdmittedExact}
+use Rattle.plexil.specs.Atomic.{parentStatus, condition, moveOf}
+use Rattle.plexil.specs.Micro.{writes, written, entersWaiting, step}
 use Rattle.plexil.specs.Order.{carryNothing, walk, settle, NamesOnce}
 use Rattle.plexil.specs.Form.{allowed, goodState, goodKept}
 use Rattle.plexil.specs.Macro.{eventAnswer, entered, entryCount}
@@ -86,22 +90,29 @@ abbrev pub EventKept : Type 0
 EventKept =
     (p : Image) (s : State) (c : Card) (b : List ℕ) → IsAdmitted p → IsKept p s → Sized s → eventAnswer p s c b ≡ Accepted → IsKept p (entered p b (entryCount b) s)
 
--- 2. Kinds. Working out entry e with d levels left reads entry x with k left
-pub data Reads (p : Image) : ℕ → ℕ → ℕ → ℕ → Type 0 where
-  itself : {d e : ℕ} → Reads p d e d e
-  ofNot : {d e k x : ℕ} → operatorAt p e ≡ notOp → Reads p d (operandA p e) k x → Reads p (suc d) e k x
-  leftOf : {d e k x : ℕ} (o : Binary) → operatorAt p e ≡ binary o → Reads p d (operandA p e) k x → Reads p (suc d) e k x
-  rightOf : {d e k x : ℕ} (o : Binary) → operatorAt p e ≡ binary o → Reads p d (operandB p e) k x → Reads p (suc d) e k x
+-- what holds of every kept state that passes 30, and of the micro step from it
+abbrev pub FromKept : (Image → State → Type 0) → Type 0
+FromKept P = (p : Image) (s : State) → IsAdmitted p → IsKept p s → P p s
 
--- "no expression meets a value of another kind"
-abbrev pub NoClash : Type 0
-NoClash =
-    (p : Image) (s : State) → IsAdmitted p → IsKept p s → (e k x : ℕ) → e < exprCount p → Reads p 12 e k x → evalOf p s k x ≡ Clash → ⊥
+-- 2. "no expression meets a value of another kind": nothing that working out an entry reads is a Clash
+abbrev pub NoClash : Image → State → Type 0
+NoClash p s = (e k x : ℕ) → e < exprCount p → Reads p 12 e k x → evalOf p s k x ≢ Clash
 
--- 3. "each node stands to its parent as 01's table allows", after every micro step
-abbrev pub ParentTable : Type 0
-ParentTable =
-    (p : Image) (s : State) → IsAdmitted p → IsKept p s → (i : ℕ) → i < nodeCount p → allowed (parentStatus p (step p s) i) (statusAt (step p s) i) ≡ true
+-- each entry read has its own kind, a leaf's cell too
+abbrev pub EntryHas : Image → State → Type 0
+EntryHas p s = (e k x : ℕ) → e < exprCount p → Reads p 12 e k x → Has (resultKind p x) (evalOf p s k x)
+
+-- a condition is True, False or Unknown
+abbrev pub ConditionHas : Image → State → Type 0
+ConditionHas p s = (i : ℕ) → i < nodeCount p → (c : Condition) → Has 0 (condition p s i c)
+
+-- what an assignment writes has its target's kind
+abbrev pub AssignedHas : Image → State → Type 0
+AssignedHas p s = (i : ℕ) → i < nodeCount p → isAssignment p i ≡ true → Has (varKind p (what p i)) (valueOf p s (valueField p i))
+
+-- 3. "each node stands to its parent as 01's table allows"
+abbrev pub ParentTable : Image → State → Type 0
+ParentTable p s = (i : ℕ) → i < nodeCount p → allowed (parentStatus p s i) (statusAt s i) ≡ true
 
 -- node i is a writer of variable v in the step from s
 pub record Writer (p : Image) (s : State) (v i : ℕ) : Type 0 where
@@ -110,9 +121,8 @@ pub record Writer (p : Image) (s : State) (v i : ℕ) : Type 0 where
   pub writing : writes p s i ≡ true
 
 -- 4. "no variable is written and reset in one step"
-abbrev pub NotWrittenAndReset : Type 0
-NotWrittenAndReset =
-    (p : Image) (s : State) → IsAdmitted p → IsKept p s → (v i : ℕ) → Writer p s v i → entersWaiting (moveOf p s (owner p v)) ≡ true → ⊥
+abbrev pub NotWrittenAndReset : Image → State → Type 0
+NotWrittenAndReset p s = (v i : ℕ) → Writer p s v i → entersWaiting (moveOf p s (owner p v)) ≡ true → ⊥
 
 -- the one writer of v whose priority is strictly greatest
 pub record Sole (p : Image) (s : State) (v i : ℕ) : Type 0 where
@@ -120,24 +130,48 @@ pub record Sole (p : Image) (s : State) (v i : ℕ) : Type 0 where
   pub greatest : (j : ℕ) → Writer p s v j → (j ≡ i → ⊥) → priority p j < priority p i
 
 -- 5. "of a step's writers only a sole highest-priority one's value enters". Had the tower kept to it, B could not have replaced AA:
--- a variable holds its old value, or its initial one because its owner entered Waiting, or that of its sole highest-priority writer
-pub data Holds (p : Image) (s : State) (v : ℕ) : Type 0 where
-  stays : varAfter p s v ≡ varCell s v → Holds p s v
-  reset : entersWaiting (moveOf p s (owner p v)) ≡ true → varAfter p s v ≡ initial p v → Holds p s v
-  enters : (i : ℕ) → Sole p s v i → varAfter p s v ≡ written p s i → Holds p s v
+-- after the step a variable holds its old value, or its initial one because its owner entered Waiting, or that of its sole highest-priority writer
+pub data CellAfter (p : Image) (s : State) (v : ℕ) : Type 0 where
+  stays : varCell (step p s) v ≡ varCell s v → CellAfter p s v
+  reset : entersWaiting (moveOf p s (owner p v)) ≡ true → varCell (step p s) v ≡ initial p v → CellAfter p s v
+  enters : (i : ℕ) → Sole p s v i → varCell (step p s) v ≡ written p s i → CellAfter p s v
 
 -- every other writer loses
 pub record Lost (p : Image) (s : State) (j : ℕ) : Type 0 where
-  pub outcome : outcomeAfter p s j ≡ Failure
-  pub failure : failureAfter p s j ≡ WriteLost
+  pub outcome : outcomeAt (step p s) j ≡ Failure
+  pub failure : failureAt (step p s) j ≡ WriteLost
 
-abbrev pub WritersSettled : Type 0
-WritersSettled =
-    (p : Image) (s : State) (v : ℕ)
-    → Holds p s v × ((i : ℕ) → Sole p s v i → varAfter p s v ≡ written p s i) × ((j : ℕ) → Writer p s v j → (Sole p s v j → ⊥) → Lost p s j)
+-- a sole writer's value does enter, and what is not a plan's variable stays as it is
+pub record WritersSettled (p : Image) (s : State) : Type 0 where
+  pub cells : (v : ℕ) → v < varCount p → CellAfter p s v
+  pub soles : (v : ℕ) → v < varCount p → (i : ℕ) → Sole p s v i → varCell (step p s) v ≡ written p s i
+  pub losers : (v j : ℕ) → Writer p s v j → (Sole p s v j → ⊥) → Lost p s j
+  pub others : (v : ℕ) → varCount p ≤ v → varCell (step p s) v ≡ varCell s v
 
 -- 6. "the nodes in any order, each once, give the same next state"
-abbrev pub AnyOrder : Type 0
-AnyOrder =
-    (p : Image) (s : State) → IsAdmitted p → IsKept p s → Sized s → (order : List ℕ) → NamesOnce p order
-    → settle p s (walk p s order (carryNothing s)) ≡ step p s
+abbrev pub AnyOrder : Image → State → Type 0
+AnyOrder p s = (order : List ℕ) → NamesOnce p order → settle p s (walk p s order (carryNothing s)) ≡ step p s
+
+-- ---- demand 3. The states of a session: what a call leaves, what the taking of an event leaves, and where each micro step leads
+pub data Reached (p : Image) : State → Type 0 where
+  left : {s : State} {c : Card} → Session p s c → Reached p s
+  told : {s : State} {c : Card} → Session p s c → (event : List ℕ) → eventAnswer p s c event ≡ Accepted → Reached p (entered p event (entryCount event) s)
+  stepped : {s : State} → Reached p s → Reached p (step p s)
+
+-- what holds of each, and of the micro step from it
+pub record Sound (p : Image) (s : State) : Type 0 where
+  pub noClash : NoClash p s
+  pub entries : EntryHas p s
+  pub conditions : ConditionHas p s
+  pub assigned : AssignedHas p s
+  pub table : ParentTable p s
+  pub notBoth : NotWrittenAndReset p s
+  pub writers : WritersSettled p s
+  pub anyOrder : AnyOrder p s
+
+-- "The check refuses exactly the plans that break a listed rule. For any admitted plan, from a fresh start, under any events and runs": a session
+-- begins with an admitted plan
+pub record Demand3 : Type 0 where
+  pub refused : RefusedExact
+  pub admitted : AdmittedExact
+  pub sessions : (p : Image) (s : State) → Reached p s → Sound p s

@@ -16,13 +16,13 @@ use Rattle.plexil.specs.Expressions.{valueOf}
 use Rattle.plexil.specs.Records.{isAssignment}
 use Rattle.plexil.specs.Atomic.{moveOf}
 use Rattle.plexil.specs.Micro.{judges, writes, written, placeBy, place, sentBy, sent, stays}
-use Rattle.plexil.specs.Order.{Carry, putPlace, meet, visit}
+use Rattle.plexil.specs.Order.{Carry, putPlace, meet, visit, walkTo}
 use Rattle.plexil.specs.Promises.{IsAdmitted, IsKept}
 use Rattle.plexil.proofs.ListLaws.{if-true, if-false, every-at, allBelow-not}
 use Rattle.plexil.proofs.RenewLaws.{whole}
 use Rattle.plexil.proofs.LoopLaws.{all-next, allBelow-more}
 use Rattle.plexil.proofs.AnyOrder.{fits}
-use Rattle.plexil.proofs.NodeOrder.{walkTo, walkTo-next}
+use Rattle.plexil.proofs.NodeOrder.{walkTo-next}
 
 module _ (p : Image) (s : State) (i : ℕ) {m : Move} (e : m ≡ moveOf p s i) where
   pub writes-is : {w : Bool} → w ≡ every (isAssignment p i ∷ judges m ∷ []) → w ≡ writes p s i

@@ -16,9 +16,8 @@ ghost use Rattle.plexil.specs.Image.{nodeCount};
 ghost use Rattle.plexil.specs.Places.{stateOf};
 ghost use Rattle.plexil.specs.Atomic.{children, isFinished, isResting, moveOf};
 ghost use Rattle.plexil.specs.Micro.{sent as sentOf, stays};
-ghost use Rattle.plexil.specs.Order.{carryOf, putPlace, meet, visit};
+ghost use Rattle.plexil.specs.Order.{carryOf, putPlace, meet, visit, walkTo};
 ghost use Rattle.plexil.specs.Promises.{IsAdmitted, IsKept};
-ghost use Rattle.plexil.proofs.NodeOrder.{walkTo};
 
 // The next places so far, with node i's.
 fn put_place(

@@ -11,8 +11,8 @@ use Rattle.plexil.specs.Atomic.{moveOf}
 use Rattle.plexil.specs.Micro.{sent as sentOf, stays}
 use Rattle.plexil.proofs.Admitted.{few-nodes}
 use Rattle.plexil.proofs.RenewLaws.{renew-none, stored}
-use Rattle.plexil.proofs.NodeOrder.{walkTo, walkTo-zero}
-use Rattle.plexil.specs.Order.{carryOf}
+use Rattle.plexil.specs.Order.{carryOf, walkTo}
+use Rattle.plexil.proofs.NodeOrder.{walkTo-zero}
 use Rattle.visit.proofs.walk.Statement.{statement}
 use Rattle.visit.proofs.walk.Tie as tie
 
