@@ -40,6 +40,7 @@ pub mod SizesKept
 pub mod Sessions
 pub mod NeverState
 pub mod Demand
+pub mod Answers
 pub mod Replies
 pub mod TurnBoth
 pub mod Synchrony

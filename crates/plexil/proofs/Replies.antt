@@ -1,5 +1,5 @@
 -- Promise 7: one reply for each call, refusals that change nothing, and the course of a run and of a turn by its reply.
-use Prim.Native.Nat.{ℕ, _+_, _≤_, _<_}
+use Prim.Native.Nat.{ℕ, _+_, _≤_}
 use mathlib.Core.Path.{_≡_, refl, sym, ap, _∙_}
 use mathlib.Core.Logic.{_⊎_, ⊎-elim, _≢_, _↔_}
 use mathlib.Core.Bool.{true}
@@ -20,7 +20,7 @@ use Rattle.plexil.specs.Micro.{quiet}
 use Rattle.plexil.specs.Places.{Quiet}
 use Rattle.plexil.specs.Quiescence.{atQuiet, spent, noRoom, Run, run}
 use Rattle.plexil.specs.Macro.{entryCount, entered, cardAfter}
-use Rattle.plexil.specs.Replies.{numbered, verdictNumber, runNumber, endAnswer, phaseAfter, startedBy, freshReply, RunReply, notRun, hasRun, hasTurned}
+use Rattle.plexil.specs.Replies.{byRefusal, byDone, bySpent, numbered, unrefused, verdictNumber, runNumber, endAnswer, phaseAfter, startedBy, freshReply, RunReply, notRun, hasRun, hasTurned}
 use Rattle.plexil.specs.ReplyPromises.{iterate, wordsOf, OneCheck, OneFresh, OneRun, OneTurn, FreshRefusalKeeps, RunRefusalKeeps, TurnRefusalKeeps, Unrun, Ended, Course, HasRun, RunCourse, TurnCourse, StaysOutside, QuietExactly, WordsStay, LengthStays}
 use Rattle.plexil.proofs.ListLaws.{not-both}
 use Rattle.plexil.proofs.PutLaws.{length-put, put-before, put-beyond}
@@ -43,7 +43,7 @@ one-turn p s c b budget l start r q exit final e f = (e .reply ∙ sym (f .reply
 -- ---- refusals
 started-refused : (p : Image) (s : State) (c : Card) (v : Verdict) → verdictNumber (startedBy v p s c .verdict) .number ≢ 0
     → (startedBy v p s c .state ≡ s) × (startedBy v p s c .card ≡ c)
-unfolding startedBy verdictNumber numbered
+unfolding startedBy verdictNumber numbered unrefused
 started-refused p s c Admitted n = absurd (n refl)
 started-refused p s c (Refused r i) n = (refl, refl)
 
@@ -116,13 +116,21 @@ turn-course p s c b budget l start =
     (λ a why h. let n = turn-refused-number p s c b l start a why in absurd (⊎-elim (n .0) (n .1) h))
     (λ v g m e h. course-of p _ (cardAfter c) budget l start _ (run-rounds p budget 0 _ l start m))
 
+-- the ending of an answer
+ending : RunAnswer → ℕ
+ending a = runNumber a .ending
+
 quiet-by : (p : Image) (budget : ℕ) (l : List ℕ) (r : Ran) → Ended p budget l r
-    → ((r .answer ≡ ran.Quiet) ↔ (quiet p (r .state) ≡ true)) × ((r .card .phase ≡ Quiet) ↔ (r .answer ≡ ran.Quiet))
-quiet-by p budget l r (Ended.atQuiet a f q) = ((λ h. q, λ h. a), (λ h. a, λ h. f))
-quiet-by p budget l r (Ended.spent a f q n) = ((λ h. cc, λ h. absurd (not-both _ h q)), (λ h. absurd (omega arith), λ h. cc))
-quiet-by p budget l r (Ended.noRoom a f q n w) = ((λ h. cc, λ h. absurd (not-both _ h q)), (λ h. absurd (omega arith), λ h. cc))
+    → ((ending (r .answer) ≡ byDone) ↔ (quiet p (r .state) ≡ true)) × ((r .card .phase ≡ Quiet) ↔ (ending (r .answer) ≡ byDone))
+unfolding ending runNumber numbered unrefused
+quiet-by p budget l r (Ended.atQuiet a f q) = ((λ h. q, λ h. ap ending a), (λ h. ap ending a, λ h. f))
+quiet-by p budget l r (Ended.spent a f q n) =
+    let e : ending (r .answer) ≡ bySpent = ap ending a in ((λ h. absurd (omega arith), λ h. absurd (not-both _ h q)), (λ h. absurd (omega arith), λ h. absurd (omega arith)))
+quiet-by p budget l r (Ended.noRoom a f q n w) =
+    let e : ending (r .answer) ≡ byRefusal = ap ending a in ((λ h. absurd (omega arith), λ h. absurd (not-both _ h q)), (λ h. absurd (omega arith), λ h. absurd (omega arith)))
 
 pub quiet-exactly : QuietExactly
+unfolding ending
 quiet-exactly p s c budget l start =
     (λ h. quiet-by p budget l _ (run-course p s c budget l start h .ended), λ b h. quiet-by p budget l _ (turn-course p s c b budget l start h .ended))
 

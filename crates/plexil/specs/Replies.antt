@@ -24,18 +24,35 @@ use Rattle.plexil.specs.Quiescence.{RunEnd, atQuiet, spent, noRoom, Run,
 use Rattle.plexil.specs.Form.{goodKept}
 use Rattle.plexil.specs.Macro.{eventAnswer, entryCount, entered, cardAfter}
 
--- a refusal's number in the table "Refusal numbers", 0 where nothing is refused, and the record or entry that it names
+-- how a call ends: it is refused
+abbrev pub byRefusal : ℕ
+byRefusal = 0
+
+-- it does what it is for: an image is admitted, a start is fresh, a run or a turn is at "Quiet"
+abbrev pub byDone : ℕ
+byDone = 1
+
+-- "Spent if its budget (0..65535) is used and a rule still applies"
+abbrev pub bySpent : ℕ
+bySpent = 2
+
+-- what an answer says in numbers: a refusal's number in the table "Refusal numbers", 0 where nothing is refused; the record or entry that it names; the ending
 pub record Numbered : Type 0 where
   pub number : ℕ
   pub record′ : ℕ
+  pub ending : ℕ
 
--- number n, which names record i
+-- refusal n, which names record i
 unfoldable pub numbered : ℕ → ℕ → Numbered
-numbered n i = record { number = n; record′ = i }
+numbered n i = record { number = n; record′ = i; ending = byRefusal }
+
+-- nothing is refused, and the ending is e
+unfoldable pub unrefused : ℕ → Numbered
+unrefused e = record { number = 0; record′ = 0; ending = e }
 
 -- 1 to 12
 unfoldable pub verdictNumber : Verdict → Numbered
-verdictNumber Admitted = numbered 0 0
+verdictNumber Admitted = unrefused byDone
 verdictNumber (Refused r i) = numbered (ruleNumber r) i
 
 -- 1 to 12, 20 to 25 and 30 to 32: "with 23 to 25 the lowest breaking entry is named .. and otherwise 0"
@@ -50,8 +67,8 @@ runNumber (ran.Entry k) = numbered 23 k
 runNumber (ran.Twice k) = numbered 24 k
 runNumber (ran.NotAwaited k) = numbered 25 k
 runNumber ran.NoRoom = numbered 32 0
-runNumber ran.Spent = numbered 0 0
-runNumber ran.Quiet = numbered 0 0
+runNumber ran.Spent = unrefused bySpent
+runNumber ran.Quiet = unrefused byDone
 
 -- ---- check
 -- the counts of a plan
@@ -151,5 +168,5 @@ turnReply p s c b budget l start = ranBy (turnTest (verdict p) p s c b (length l
 
 -- opens every definition of this file
 unfoldable pub opened : Unit {0}
-unfolding numbered verdictNumber runNumber checkedBy checkReply startedBy freshReply runTest andThen turnTest endAnswer phaseAfter notRun hasRun ranBy runReply hasTurned turnReply
+unfolding numbered unrefused verdictNumber runNumber checkedBy checkReply startedBy freshReply runTest andThen turnTest endAnswer phaseAfter notRun hasRun ranBy runReply hasTurned turnReply
 opened = tt

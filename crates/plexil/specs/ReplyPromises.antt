@@ -13,6 +13,7 @@ use Rattle.plexil.specs.declared.Checked.{Checked}
 use Rattle.plexil.specs.declared.Started.{Started}
 use Rattle.plexil.specs.declared.RunAnswer.the-variants as ran
 use Rattle.plexil.specs.declared.Ran.{Ran}
+use Rattle.plexil.specs.declared.Verdict.{Verdict}
 use Rattle.plexil.specs.declared.Verdict.the-variants.{Refused}
 use Rattle.plexil.specs.declared.RunAnswer.{RunAnswer}
 use Rattle.plexil.specs.declared.Tested.the-variants as test
@@ -23,7 +24,7 @@ use Rattle.plexil.specs.Micro.{step, words, quiet}
 use Rattle.plexil.specs.Check.{verdict}
 use Rattle.plexil.specs.Form.{goodKept}
 use Rattle.plexil.specs.Macro.{eventAnswer, entryCount, entered, cardAfter}
-use Rattle.plexil.specs.Replies.{verdictNumber, runNumber, checkReply, freshReply, RunReply, runReply, turnReply}
+use Rattle.plexil.specs.Replies.{byDone, verdictNumber, runNumber, checkReply, freshReply, RunReply, runReply, turnReply}
 use Rattle.plexil.specs.Promises.{IsAdmitted, Sized}
 
 -- the state after k micro steps from s
@@ -66,6 +67,11 @@ abbrev pub OneTurn : Type 0
 OneTurn =
     (p : Image) (s : State) (c : Card) (event : List ℕ) (budget : ℕ) (list : List ℕ) (start : ℕ) (r q : Ran) (exit final : List ℕ)
     → TurnPermits p s c event budget list start r exit → TurnPermits p s c event budget list start q final → (r ≡ q) × (exit ≡ final)
+
+-- ---- "Whenever an answer is an enum, a definition gives this paper's number and values for each of the enum's cases": they tell the answers apart
+pub record AnswersApart : Type 0 where
+  pub runs : (a b : RunAnswer) → runNumber a ≡ runNumber b → a ≡ b
+  pub verdicts : (v w : Verdict) → verdictNumber v ≡ verdictNumber w → v ≡ w
 
 -- ---- "Apart from 32 a refusal changes nothing"
 abbrev pub FreshRefusalKeeps : Type 0
@@ -162,7 +168,8 @@ BothOfTurn =
 -- "Quiet means that no rule applies", "The phase is Quiet exactly after the answer Quiet"
 abbrev pub IsExact : Image → RunReply → Type 0
 IsExact p r =
-    HasRun r → ((r .ran .answer ≡ ran.Quiet) ↔ (quiet p (r .ran .state) ≡ true)) × ((r .ran .card .phase ≡ Quiet) ↔ (r .ran .answer ≡ ran.Quiet))
+    HasRun r
+    → ((runNumber (r .ran .answer) .ending ≡ byDone) ↔ (quiet p (r .ran .state) ≡ true)) × ((r .ran .card .phase ≡ Quiet) ↔ (runNumber (r .ran .answer) .ending ≡ byDone))
 
 -- "Words before the start place and beyond the last word written stay", after every reply
 abbrev pub StaysOutside : List ℕ → ℕ → RunReply → Type 0

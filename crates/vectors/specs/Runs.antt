@@ -83,7 +83,7 @@ unfoldable pub card : Card
 card = record { serial = 9; phase = 2 }
 
 unfoldable pub named : Numbered → List ℕ
-named n = n .number ∷ n .record′ ∷ []
+named n = n .number ∷ n .record′ ∷ n .ending ∷ []
 
 unfoldable pub lentAfter : State → Card → List ℕ
 lentAfter s c = getD (s .status) 3 0 ∷ c .serial ∷ c .phase ∷ []
@@ -99,7 +99,7 @@ refusedBy p =
 
 unfoldable pub refusedExpected : ℕ → ℕ → List (List ℕ)
 refusedExpected n i =
-    (n ∷ i ∷ []) ∷ (5 ∷ 9 ∷ 2 ∷ []) ∷ (n ∷ i ∷ []) ∷ (5 ∷ 9 ∷ 2 ∷ []) ∷ (0 ∷ 1 ∷ 5 ∷ 6 ∷ []) ∷ (n ∷ i ∷ []) ∷ (5 ∷ 9 ∷ 2 ∷ []) ∷ (0 ∷ 1 ∷ 5 ∷ 6 ∷ []) ∷ []
+    (n ∷ i ∷ 0 ∷ []) ∷ (5 ∷ 9 ∷ 2 ∷ []) ∷ (n ∷ i ∷ 0 ∷ []) ∷ (5 ∷ 9 ∷ 2 ∷ []) ∷ (0 ∷ 1 ∷ 5 ∷ 6 ∷ []) ∷ (n ∷ i ∷ 0 ∷ []) ∷ (5 ∷ 9 ∷ 2 ∷ []) ∷ (0 ∷ 1 ∷ 5 ∷ 6 ∷ []) ∷ []
 
 unfoldable pub refusedAll : List (List (List ℕ))
 refusedAll = refusedBy [] ∷ refusedBy (set nodes 92 3) ∷ []
@@ -107,7 +107,7 @@ refusedAll = refusedBy [] ∷ refusedBy (set nodes 92 3) ∷ []
 unfoldable pub refusedAllExpected : List (List (List ℕ))
 refusedAllExpected = refusedExpected 1 0 ∷ refusedExpected 5 3 ∷ []
 
--- "Refusal numbers": 20 to 25 and 30 to 32, with the entry named for 23 to 25, and 0 where nothing is refused
+-- "Refusal numbers": 20 to 25 and 30 to 32, with the entry named for 23 to 25, 0 where nothing is refused, and the ending
 unfoldable pub numbers : List (List ℕ)
 numbers =
     map named
@@ -117,8 +117,8 @@ numbers =
 
 unfoldable pub numbersExpected : List (List ℕ)
 numbersExpected =
-    (0 ∷ 0 ∷ []) ∷ (12 ∷ 8 ∷ []) ∷ (1 ∷ 0 ∷ []) ∷ (11 ∷ 7 ∷ []) ∷ (30 ∷ 0 ∷ []) ∷ (31 ∷ 0 ∷ []) ∷ (20 ∷ 0 ∷ []) ∷ (21 ∷ 0 ∷ []) ∷ (22 ∷ 0 ∷ []) ∷ (23 ∷ 5 ∷ []) ∷ (24 ∷ 4 ∷ [])
-    ∷ (25 ∷ 3 ∷ []) ∷ (32 ∷ 0 ∷ []) ∷ (0 ∷ 0 ∷ []) ∷ (0 ∷ 0 ∷ []) ∷ []
+    (0 ∷ 0 ∷ 1 ∷ []) ∷ (12 ∷ 8 ∷ 0 ∷ []) ∷ (1 ∷ 0 ∷ 0 ∷ []) ∷ (11 ∷ 7 ∷ 0 ∷ []) ∷ (30 ∷ 0 ∷ 0 ∷ []) ∷ (31 ∷ 0 ∷ 0 ∷ []) ∷ (20 ∷ 0 ∷ 0 ∷ []) ∷ (21 ∷ 0 ∷ 0 ∷ []) ∷ (22 ∷ 0 ∷ 0 ∷ [])
+    ∷ (23 ∷ 5 ∷ 0 ∷ []) ∷ (24 ∷ 4 ∷ 0 ∷ []) ∷ (25 ∷ 3 ∷ 0 ∷ []) ∷ (32 ∷ 0 ∷ 0 ∷ []) ∷ (0 ∷ 0 ∷ 2 ∷ []) ∷ (0 ∷ 0 ∷ 1 ∷ []) ∷ []
 
 -- opens every definition of this file
 unfoldable pub opened : Unit {0}

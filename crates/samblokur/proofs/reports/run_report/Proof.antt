@@ -1,7 +1,7 @@
 -- By the answer.
 use borrow.Author.Needs.{needs}
-use Rattle.plexil.specs.Replies.{numbered, runNumber}
-use Rattle.samblokur.specs.Reports.{runEnding, runReport}
+use Rattle.plexil.specs.Replies.{numbered, unrefused, runNumber}
+use Rattle.samblokur.specs.Reports.{runReport}
 use Rattle.samblokur.proofs.ExitLaws.{renumbered}
 use Rattle.samblokur.proofs.reports.run_report.Statement.{statement}
 use Rattle.samblokur.proofs.reports.run_report.Tie as tie
@@ -82,51 +82,51 @@ done-requires-2 : tie.Need-done-requires-2
 done-requires-2 c κs = search needs
 
 returns : tie.Need-returns
-unfolding numbered runNumber runEnding runReport
+unfolding numbered unrefused runNumber runReport
 returns c = rw (c .before .before .before .answer .given .1) (renumbered (c .before .rule-number .ensures) (c .refused .ensures))
 
 returns-2 : tie.Need-returns-2
-unfolding numbered runNumber runEnding runReport
+unfolding numbered unrefused runNumber runReport
 returns-2 c = rw (c .before .enum-told .given .1) (c .refused2 .ensures)
 
 returns-3 : tie.Need-returns-3
-unfolding numbered runNumber runEnding runReport
+unfolding numbered unrefused runNumber runReport
 returns-3 c = rw (c .before .enum-told2 .given .1) (c .refused3 .ensures)
 
 returns-4 : tie.Need-returns-4
-unfolding numbered runNumber runEnding runReport
+unfolding numbered unrefused runNumber runReport
 returns-4 c = rw (c .before .enum-told3 .given .1) (c .refused4 .ensures)
 
 returns-5 : tie.Need-returns-5
-unfolding numbered runNumber runEnding runReport
+unfolding numbered unrefused runNumber runReport
 returns-5 c = rw (c .before .enum-told4 .given .1) (c .refused5 .ensures)
 
 returns-6 : tie.Need-returns-6
-unfolding numbered runNumber runEnding runReport
+unfolding numbered unrefused runNumber runReport
 returns-6 c = rw (c .before .enum-told5 .given .1) (c .refused6 .ensures)
 
 returns-7 : tie.Need-returns-7
-unfolding numbered runNumber runEnding runReport
+unfolding numbered unrefused runNumber runReport
 returns-7 c = rw (c .before .before .answer2 .given .1) (c .refused7 .ensures)
 
 returns-8 : tie.Need-returns-8
-unfolding numbered runNumber runEnding runReport
+unfolding numbered unrefused runNumber runReport
 returns-8 c = rw (c .before .before .answer3 .given .1) (c .refused8 .ensures)
 
 returns-9 : tie.Need-returns-9
-unfolding numbered runNumber runEnding runReport
+unfolding numbered unrefused runNumber runReport
 returns-9 c = rw (c .before .before .answer4 .given .1) (c .refused9 .ensures)
 
 returns-10 : tie.Need-returns-10
-unfolding numbered runNumber runEnding runReport
+unfolding numbered unrefused runNumber runReport
 returns-10 c = rw (c .before .enum-told6 .given .1) (c .refused10 .ensures)
 
 returns-11 : tie.Need-returns-11
-unfolding numbered runNumber runEnding runReport
+unfolding numbered unrefused runNumber runReport
 returns-11 c = rw (c .before .enum-told7 .given .1) (c .done .ensures)
 
 returns-12 : tie.Need-returns-12
-unfolding numbered runNumber runEnding runReport
+unfolding numbered unrefused runNumber runReport
 returns-12 c = rw (c .before .enum-told8 .given .1) (c .done2 .ensures)
 
 pub run-report-spec : {M : Type 1} → statement M

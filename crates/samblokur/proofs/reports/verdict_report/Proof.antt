@@ -1,7 +1,7 @@
 -- By the verdict.
 use borrow.Author.Needs.{needs}
-use Rattle.plexil.specs.Replies.{numbered, verdictNumber}
-use Rattle.samblokur.specs.Reports.{verdictEnding, verdictReport}
+use Rattle.plexil.specs.Replies.{numbered, unrefused, verdictNumber}
+use Rattle.samblokur.specs.Reports.{verdictReport}
 use Rattle.samblokur.proofs.ExitLaws.{renumbered}
 use Rattle.samblokur.proofs.reports.verdict_report.Statement.{statement}
 use Rattle.samblokur.proofs.reports.verdict_report.Tie as tie
@@ -22,11 +22,11 @@ refused-requires : tie.Need-refused-requires
 refused-requires c κs = search needs
 
 returns : tie.Need-returns
-unfolding numbered verdictNumber verdictEnding verdictReport
+unfolding numbered unrefused verdictNumber verdictReport
 returns c = rw (c .before .enum-told .given .1) (c .done .ensures)
 
 returns-2 : tie.Need-returns-2
-unfolding numbered verdictNumber verdictEnding verdictReport
+unfolding numbered unrefused verdictNumber verdictReport
 returns-2 c = rw (c .before .before .before .v .given .1) (renumbered (c .before .rule-number .ensures) (c .refused .ensures))
 
 pub verdict-report-spec : {M : Type 1} → statement M
