@@ -11,7 +11,8 @@ use plexil::Checked;
 use plexil::Counts;
 use plexil::Verdict;
 ghost use mathlib.Core.Path.{_≡_};
-ghost use Rattle.plexil.specs.Replies.{countsOf, checkedBy, checkReply};
+ghost use Rattle.plexil.specs.Replies.{countsOf, checkedBy};
+ghost use Rattle.plexil.specs.ReplyPromises.{CheckPermits};
 
 fn counts(image: &[u8]) -> Counts
     ensures { λ r. ⌜ r ≡ countsOf (now (image .entry)) ⌝ }
@@ -50,7 +51,7 @@ fn checked(image: &[u8], v: Verdict) -> Checked
 
 // The verdict with the checked counts, all 0 where the image is refused.
 pub fn check(image: &[u8]) -> Checked
-    ensures { λ r. ⌜ r ≡ checkReply (now (image .entry)) ⌝ }
+    ensures { λ r. ⌜ CheckPermits (now (image .entry)) r ⌝ }
 {
     checked(image, rules::verdict(image))
 }

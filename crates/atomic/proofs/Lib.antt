@@ -1,2 +1,3 @@
 pub mod ChildLaws
 pub mod RuleLaws
+pub mod OneReply

@@ -1,2 +1,3 @@
 pub mod Readers
 pub mod Reading
+pub mod OneReply

@@ -7,8 +7,7 @@ pub use records::ExpressionAt;
 pub use records::LookupAt;
 pub use records::NodeAt;
 pub use records::VariableAt;
-ghost use mathlib.Core.Path.{_≡_};
-ghost use Rattle.plan.specs.View.{openedOf, nodeAtOf, expressionAtOf, variableAtOf, lookupAtOf};
+ghost use Rattle.plan.specs.Permits.{OpenPermits, NodePermits, ExpressionPermits, VariablePermits, LookupPermits};
 
 // The counts are those of the check: 0 where the image is refused.
 pub struct Plan<'a> {
@@ -23,7 +22,7 @@ pub struct Opened<'a> {
 
 // The view beside the check's verdict.
 pub fn open<'a>(image: &'a [u8]) -> Opened<'a>
-    ensures { λ r. ⌜ r ≡ openedOf (image .entry) ⌝ }
+    ensures { λ r. ⌜ OpenPermits (image .entry) r ⌝ }
 {
     let c = admit::check(image);
     Opened {
@@ -37,25 +36,25 @@ pub fn open<'a>(image: &'a [u8]) -> Opened<'a>
 
 // A number that is not below the plan's count is Outside: in the view of a refused image every number is.
 pub fn node<'a>(plan: Plan<'a>, i: u16) -> NodeAt
-    ensures { λ r. ⌜ r ≡ nodeAtOf (now (plan .entry .image)) (plan .entry .counts .nodes) i ⌝ }
+    ensures { λ r. ⌜ NodePermits (plan .entry) i r ⌝ }
 {
     records::node_at(plan.image, plan.counts.nodes, i)
 }
 
 pub fn expression<'a>(plan: Plan<'a>, e: u16) -> ExpressionAt
-    ensures { λ r. ⌜ r ≡ expressionAtOf (now (plan .entry .image)) (plan .entry .counts .exprs) e ⌝ }
+    ensures { λ r. ⌜ ExpressionPermits (plan .entry) e r ⌝ }
 {
     records::expression_at(plan.image, plan.counts.exprs, e)
 }
 
 pub fn variable<'a>(plan: Plan<'a>, v: u16) -> VariableAt
-    ensures { λ r. ⌜ r ≡ variableAtOf (now (plan .entry .image)) (plan .entry .counts .vars) v ⌝ }
+    ensures { λ r. ⌜ VariablePermits (plan .entry) v r ⌝ }
 {
     records::variable_at(plan.image, plan.counts.vars, v)
 }
 
 pub fn lookup<'a>(plan: Plan<'a>, l: u16) -> LookupAt
-    ensures { λ r. ⌜ r ≡ lookupAtOf (now (plan .entry .image)) (plan .entry .counts .looks) l ⌝ }
+    ensures { λ r. ⌜ LookupPermits (plan .entry) l r ⌝ }
 {
     records::lookup_at(plan.image, plan.counts.looks, l)
 }

@@ -21,7 +21,7 @@ use Rattle.plexil.specs.Places.{Quiet}
 use Rattle.plexil.specs.Quiescence.{atQuiet, spent, noRoom, Run, run}
 use Rattle.plexil.specs.Macro.{entryCount, entered, cardAfter}
 use Rattle.plexil.specs.Replies.{byRefusal, byDone, bySpent, numbered, unrefused, verdictNumber, runNumber, endAnswer, phaseAfter, startedBy, freshReply, RunReply, notRun, hasRun, hasTurned}
-use Rattle.plexil.specs.ReplyPromises.{iterate, wordsOf, OneCheck, OneFresh, OneRun, OneTurn, FreshRefusalKeeps, RunRefusalKeeps, TurnRefusalKeeps, Unrun, Ended, Course, HasRun, RunCourse, TurnCourse, StaysOutside, QuietExactly, WordsStay, LengthStays}
+use Rattle.plexil.specs.ReplyPromises.{iterate, wordsOf, OneCheck, OneFresh, OneRun, OneTurn, OneSaid, OneOfAny, FreshRefusalKeeps, RunRefusalKeeps, TurnRefusalKeeps, Unrun, Ended, Course, HasRun, RunCourse, TurnCourse, StaysOutside, QuietExactly, WordsStay, LengthStays}
 use Rattle.plexil.proofs.ListLaws.{not-both}
 use Rattle.plexil.proofs.PutLaws.{length-put, put-before, put-beyond}
 use Rattle.plexil.proofs.RunCourse.{Ends, by-quiet, by-budget, by-room, Rounds, run-rounds}
@@ -35,10 +35,16 @@ pub one-fresh : OneFresh
 one-fresh p s c r q e f = e ∙ sym f
 
 pub one-run : OneRun
-one-run p s c budget l start r q exit final e f = (e .reply ∙ sym (f .reply), e .lent ∙ sym (f .lent))
+one-run p s c budget l start r q exit final e f = (e .0 ∙ sym (f .0), e .1 ∙ sym (f .1))
 
 pub one-turn : OneTurn
-one-turn p s c b budget l start r q exit final e f = (e .reply ∙ sym (f .reply), e .lent ∙ sym (f .lent))
+one-turn p s c b budget l start r q exit final e f = (e .0 ∙ sym (f .0), e .1 ∙ sym (f .1))
+
+pub one-said : OneSaid
+one-said A said r q e f = e ∙ sym f
+
+pub one-of-any : OneOfAny
+one-of-any A S Has said s h r q e f = e s h ∙ sym (f s h)
 
 -- ---- refusals
 started-refused : (p : Image) (s : State) (c : Card) (v : Verdict) → verdictNumber (startedBy v p s c .verdict) .number ≢ 0

@@ -37,20 +37,18 @@ unfoldable pub wordsOf : Image → ℕ → State → List ℕ
 wordsOf p zero s = []
 wordsOf p (suc k) s = words p s ++ wordsOf p k (step p s)
 
--- ---- "Any two replies it permits are proved equal". What each contract permits: the reply, and what was lent at exit
+-- ---- "Any two replies it permits are proved equal". What the contract of each call permits, which its `ensures` cites: the reply, and what was lent at exit
 abbrev pub CheckPermits : Image → Checked → Type 0
 CheckPermits p r = r ≡ checkReply p
 
 abbrev pub FreshPermits : Image → State → Card → Started → Type 0
 FreshPermits p s c r = r ≡ freshReply p s c
 
-pub record RunPermits (p : Image) (s : State) (c : Card) (budget : ℕ) (list : List ℕ) (start : ℕ) (r : Ran) (exit : List ℕ) : Type 0 where
-  pub reply : r ≡ runReply p s c budget list start .ran
-  pub lent : exit ≡ runReply p s c budget list start .list
+abbrev pub RunPermits : Image → State → Card → ℕ → List ℕ → ℕ → Ran → List ℕ → Type 0
+RunPermits p s c budget list start r exit = (r ≡ runReply p s c budget list start .ran) × (exit ≡ runReply p s c budget list start .list)
 
-pub record TurnPermits (p : Image) (s : State) (c : Card) (event : List ℕ) (budget : ℕ) (list : List ℕ) (start : ℕ) (r : Ran) (exit : List ℕ) : Type 0 where
-  pub reply : r ≡ turnReply p s c event budget list start .ran
-  pub lent : exit ≡ turnReply p s c event budget list start .list
+abbrev pub TurnPermits : Image → State → Card → List ℕ → ℕ → List ℕ → ℕ → Ran → List ℕ → Type 0
+TurnPermits p s c event budget list start r exit = (r ≡ turnReply p s c event budget list start .ran) × (exit ≡ turnReply p s c event budget list start .list)
 
 abbrev pub OneCheck : Type 0
 OneCheck = (p : Image) (r q : Checked) → CheckPermits p r → CheckPermits p q → r ≡ q
@@ -67,6 +65,14 @@ abbrev pub OneTurn : Type 0
 OneTurn =
     (p : Image) (s : State) (c : Card) (event : List ℕ) (budget : ℕ) (list : List ℕ) (start : ℕ) (r q : Ran) (exit final : List ℕ)
     → TurnPermits p s c event budget list start r exit → TurnPermits p s c event budget list start q final → (r ≡ q) × (exit ≡ final)
+
+-- every other contract says the reply, or what was lent at exit, by a definition ..
+abbrev pub OneSaid : Type 1
+OneSaid = (A : Type 0) (said r q : A) → r ≡ said → q ≡ said → r ≡ q
+
+-- .. or by a definition over any state, or any state and what is carried, that has the arrays lent: there is one that has them
+abbrev pub OneOfAny : Type 1
+OneOfAny = (A S : Type 0) (Has : S → Type 0) (said : S → A) (s : S) → Has s → (r q : A) → ((s : S) → Has s → r ≡ said s) → ((s : S) → Has s → q ≡ said s) → r ≡ q
 
 -- ---- "Whenever an answer is an enum, a definition gives this paper's number and values for each of the enum's cases": they tell the answers apart
 pub record AnswersApart : Type 0 where

@@ -1,3 +1,4 @@
 pub mod ExitLaws
 pub mod Lending
 pub mod Lent
+pub mod OneReply

@@ -4,16 +4,12 @@ use super::reports::Report;
 use plexil::Card;
 use plexil::Counts;
 use plexil::State;
-ghost use mathlib.Core.Path.{_≡_};
-ghost use Rattle.plexil.specs.Replies.{checkReply, freshReply, runReply, turnReply};
-ghost use Rattle.samblokur.specs.Exits.{checkExit, freshExit, runExit};
+ghost use Rattle.samblokur.specs.Permits.{CheckLeaves, FreshLeaves, RunLeaves, EventLeaves};
 
 // Checks a plan image.
 #[no_mangle]
 pub extern "C" fn samblokur_check(image: &[u8], counts: &mut Counts, report: &mut Report) -> u32
-    ensures { λ r. ⌜ (r ≡ checkExit (checkReply (now (image .entry))) .number)
-        × (now (counts .exit) ≡ checkExit (checkReply (now (image .entry))) .counts)
-        × (now (report .exit) ≡ checkExit (checkReply (now (image .entry))) .report) ⌝ }
+    ensures { λ r. ⌜ CheckLeaves (now (image .entry)) r (now (counts .exit)) (now (report .exit)) ⌝ }
 {
     let r = calls::check(image);
     *counts = r.counts;
@@ -29,10 +25,7 @@ pub extern "C" fn samblokur_fresh(
     card: &mut Card,
     report: &mut Report,
 ) -> u32
-    ensures { λ r. ⌜ (r ≡ freshExit (freshReply (now (image .entry)) (now (state .entry)) (now (card .entry))) .number)
-        × (now (state .exit) ≡ freshExit (freshReply (now (image .entry)) (now (state .entry)) (now (card .entry))) .state)
-        × (now (card .exit) ≡ freshExit (freshReply (now (image .entry)) (now (state .entry)) (now (card .entry))) .card)
-        × (now (report .exit) ≡ freshExit (freshReply (now (image .entry)) (now (state .entry)) (now (card .entry))) .report) ⌝ }
+    ensures { λ r. ⌜ FreshLeaves (now (image .entry)) (now (state .entry)) (now (card .entry)) r (now (state .exit)) (now (card .exit)) (now (report .exit)) ⌝ }
 {
     let r = calls::fresh(image, *state, *card);
     *state = r.state;
@@ -52,11 +45,7 @@ pub extern "C" fn samblokur_run(
     start: usize,
     report: &mut Report,
 ) -> u32
-    ensures { λ r. ⌜ (r ≡ runExit (runReply (now (image .entry)) (now (state .entry)) (now (card .entry)) budget (now (list .entry)) start .ran) .number)
-        × (now (state .exit) ≡ runExit (runReply (now (image .entry)) (now (state .entry)) (now (card .entry)) budget (now (list .entry)) start .ran) .state)
-        × (now (card .exit) ≡ runExit (runReply (now (image .entry)) (now (state .entry)) (now (card .entry)) budget (now (list .entry)) start .ran) .card)
-        × (now (report .exit) ≡ runExit (runReply (now (image .entry)) (now (state .entry)) (now (card .entry)) budget (now (list .entry)) start .ran) .report)
-        × (now (list .exit) ≡ runReply (now (image .entry)) (now (state .entry)) (now (card .entry)) budget (now (list .entry)) start .list) ⌝ }
+    ensures { λ r. ⌜ RunLeaves (now (image .entry)) (now (state .entry)) (now (card .entry)) budget (now (list .entry)) start r (now (state .exit)) (now (card .exit)) (now (report .exit)) (now (list .exit)) ⌝ }
 {
     let r = calls::run(image, *state, *card, budget, list, start);
     *state = r.state;
@@ -77,11 +66,7 @@ pub extern "C" fn samblokur_turn(
     start: usize,
     report: &mut Report,
 ) -> u32
-    ensures { λ r. ⌜ (r ≡ runExit (turnReply (now (image .entry)) (now (state .entry)) (now (card .entry)) (now (event .entry)) budget (now (list .entry)) start .ran) .number)
-        × (now (state .exit) ≡ runExit (turnReply (now (image .entry)) (now (state .entry)) (now (card .entry)) (now (event .entry)) budget (now (list .entry)) start .ran) .state)
-        × (now (card .exit) ≡ runExit (turnReply (now (image .entry)) (now (state .entry)) (now (card .entry)) (now (event .entry)) budget (now (list .entry)) start .ran) .card)
-        × (now (report .exit) ≡ runExit (turnReply (now (image .entry)) (now (state .entry)) (now (card .entry)) (now (event .entry)) budget (now (list .entry)) start .ran) .report)
-        × (now (list .exit) ≡ turnReply (now (image .entry)) (now (state .entry)) (now (card .entry)) (now (event .entry)) budget (now (list .entry)) start .list) ⌝ }
+    ensures { λ r. ⌜ EventLeaves (now (image .entry)) (now (state .entry)) (now (card .entry)) (now (event .entry)) budget (now (list .entry)) start r (now (state .exit)) (now (card .exit)) (now (report .exit)) (now (list .exit)) ⌝ }
 {
     let r = calls::turn(image, *state, *card, event, budget, list, start);
     *state = r.state;

@@ -3,11 +3,10 @@ use plexil::Card;
 use plexil::Started;
 use plexil::State;
 use plexil::Verdict;
-ghost use mathlib.Core.Path.{_≡_};
-ghost use Rattle.plexil.specs.Replies.{freshReply};
+ghost use Rattle.plexil.specs.ReplyPromises.{FreshPermits};
 
 pub fn fresh(image: &[u8], state: State, card: Card) -> Started
-    ensures { λ r. ⌜ r ≡ freshReply (now (image .entry)) state card ⌝ }
+    ensures { λ r. ⌜ FreshPermits (now (image .entry)) state card r ⌝ }
 {
     let checked = admit::check(image);
     let v = checked.verdict;

@@ -6,8 +6,7 @@ use plexil::Card;
 use plexil::Ran;
 use plexil::State;
 use plexil::Tested;
-ghost use mathlib.Core.Path.{_≡_};
-ghost use Rattle.plexil.specs.Replies.{turnReply};
+ghost use Rattle.plexil.specs.ReplyPromises.{TurnPermits};
 
 pub fn turn(
     image: &[u8],
@@ -18,8 +17,7 @@ pub fn turn(
     list: &mut [u32],
     start: usize,
 ) -> Ran
-    ensures { λ r. ⌜ (r ≡ turnReply (now (image .entry)) state card (now (event .entry)) budget (now (list .entry)) start .ran)
-        × (now (list .exit) ≡ turnReply (now (image .entry)) state card (now (event .entry)) budget (now (list .entry)) start .list) ⌝ }
+    ensures { λ r. ⌜ TurnPermits (now (image .entry)) state card (now (event .entry)) budget (now (list .entry)) start r (now (list .exit)) ⌝ }
 {
     let t = turn_test(image, state, card, event, list.len(), start);
     match t {

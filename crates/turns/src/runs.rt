@@ -10,7 +10,8 @@ ghost use mathlib.Core.Path.{_≡_};
 ghost use Prim.Native.Nat.{_≤_};
 ghost use lib.ListN.{length};
 ghost use Rattle.plexil.specs.Quiescence.{run as runOf};
-ghost use Rattle.plexil.specs.Replies.{hasRun, runReply};
+ghost use Rattle.plexil.specs.Replies.{hasRun};
+ghost use Rattle.plexil.specs.ReplyPromises.{RunPermits};
 ghost use Rattle.plexil.specs.Promises.{IsAdmitted, IsKept};
 ghost use Rattle.turns.specs.Ended.{ranTo, unrun};
 
@@ -101,8 +102,7 @@ pub fn run(
     list: &mut [u32],
     start: usize,
 ) -> Ran
-    ensures { λ r. ⌜ (r ≡ runReply (now (image .entry)) state card budget (now (list .entry)) start .ran)
-        × (now (list .exit) ≡ runReply (now (image .entry)) state card budget (now (list .entry)) start .list) ⌝ }
+    ensures { λ r. ⌜ RunPermits (now (image .entry)) state card budget (now (list .entry)) start r (now (list .exit)) ⌝ }
 {
     let t = run_test(image, state, card, list.len(), start);
     match t {
