@@ -15,6 +15,6 @@ pub one-answered : OneAnswered
 one-answered p st a b x y e f =
     let s = stateOf st [] [] [] [] [] [] [] in
     λ j. record {
-      finished = same-tests _ _ (x .finished) (y .finished) (λ i m. e .finished s refl i m ∙ sym (f .finished s refl i m)) j;
-      resting = same-tests _ _ (x .resting) (y .resting) (λ i m. e .resting s refl i m ∙ sym (f .resting s refl i m)) j;
+      finished = same-tests (a .finished) (b .finished) (x .finished) (y .finished) (λ i m. e .finished s refl i m ∙ sym (f .finished s refl i m)) j;
+      resting = same-tests (a .resting) (b .resting) (x .resting) (y .resting) (λ i m. e .resting s refl i m ∙ sym (f .resting s refl i m)) j;
     }

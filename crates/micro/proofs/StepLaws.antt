@@ -12,7 +12,7 @@ use Rattle.plexil.specs.Image.{Image, nodeCount}
 use Rattle.plexil.specs.Places.{stateOf}
 use Rattle.plexil.specs.Micro.{sent, wordOf, wordsFrom, words, quiet, step}
 use Rattle.plexil.specs.Order.{Carry, carryNothing, walkTo, settle}
-use Rattle.plexil.specs.Promises.{IsAdmitted, IsKept, Sized}
+use Rattle.plexil.specs.Promises.{IsAdmitted, Sized}
 use Rattle.plexil.proofs.ListLaws.{if-true, if-false, renew-at}
 use Rattle.plexil.proofs.Visit.{Lengths}
 use Rattle.plexil.proofs.NodeOrder.{walkTo-lengths, node-order}
@@ -42,10 +42,10 @@ settled : (p : Image) (s : State) (c : Carry) {oc fl vt vb : List ℕ} → oc �
 unfolding settle
 settled p s c a b d e = λ t. stateOf (c .status) (a t) (b t) (c .mark) (d t) (e t) (s .looktags) (s .lookbits)
 
-pub next-state : (p : Image) (s : State) → IsAdmitted p → IsKept p s → Sized s → (c : Carry) → c ≡ walkTo p s (carryNothing s) (nodeCount p)
+pub next-state : (p : Image) (s : State) → IsAdmitted p → Sized s → (c : Carry) → c ≡ walkTo p s (carryNothing s) (nodeCount p)
     → {oc fl vt vb : List ℕ} → oc ≡ settle p s c .outcome → fl ≡ settle p s c .failure → vt ≡ settle p s c .vartags → vb ≡ settle p s c .varbits
     → stateOf (c .status) oc fl (c .mark) vt vb (s .looktags) (s .lookbits) ≡ step p s
-next-state p s a k z c w h₁ h₂ h₃ h₄ = settled p s c h₁ h₂ h₃ h₄ ∙ (ap (settle p s) w ∙ node-order p s a k z)
+next-state p s a z c w h₁ h₂ h₃ h₄ = settled p s c h₁ h₂ h₃ h₄ ∙ (ap (settle p s) w ∙ node-order p s a z)
 
 -- ---- the three ends
 module _ (p : Image) (s : State) (part : List ℕ) {b : Bool} (moved : b ≡ not (quiet p s)) where

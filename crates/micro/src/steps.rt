@@ -42,6 +42,7 @@ pub fn step(image: &[u8], s: State, part: &mut [u32]) -> Stepped
     let mut oc2 = s.outcome;
     let mut fl2 = s.failure;
     let mut mk2 = s.mark;
+    let mut wrote = [false; 256];
     let mut top = [0u32; 128];
     let mut node = [0u16; 128];
     let mut tags = [0u8; 128];
@@ -65,6 +66,7 @@ pub fn step(image: &[u8], s: State, part: &mut [u32]) -> Stepped
         &mut oc2,
         &mut fl2,
         &mut mk2,
+        &mut wrote,
         &mut top,
         &mut node,
         &mut tags,
@@ -75,7 +77,7 @@ pub fn step(image: &[u8], s: State, part: &mut [u32]) -> Stepped
         let words = count_words(&sent, n);
         if words as usize <= part.len() {
             put_words(&sent, n, part);
-            settle::settle_places(image, &st, &st2, &node, &tied, &mut oc2, &mut fl2);
+            settle::settle_places(image, &wrote, &node, &tied, &mut oc2, &mut fl2);
             settle::settle_vars(
                 image,
                 &st,

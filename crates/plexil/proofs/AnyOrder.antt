@@ -11,40 +11,36 @@ use borrow.Author.Tests.{ltb-true}
 use Rattle.plexil.specs.declared.Cell.{Cell}
 use Rattle.plexil.specs.declared.State.{State}
 use Rattle.plexil.specs.declared.Place.{Place}
-use Rattle.plexil.specs.declared.Status.the-variants.{Finishing}
-use Rattle.plexil.specs.Lists.{if_then_else_, every, some}
+use Rattle.plexil.specs.Lists.{if_then_else_, every}
 use Rattle.plexil.specs.Image.{Image, nodeCount, varCount, what, owner}
-use Rattle.plexil.specs.Places.{same, statusAt, initial, varCell, Failure, WriteLost}
-use Rattle.plexil.specs.Records.{isList, isAssignment, goodWhat, goodNode}
+use Rattle.plexil.specs.Places.{initial, varCell, Failure, WriteLost}
+use Rattle.plexil.specs.Records.{isAssignment, goodWhat, goodNode}
 use Rattle.plexil.specs.Atomic.{moveOf}
 use Rattle.plexil.specs.Micro.{writes, loses, place, outcomeAfter, failureAfter, entersWaiting, unwritten, varAfter, step}
-use Rattle.plexil.specs.Order.{Carry, carryNothing, walk, wrote, leads, lost, enteredWaiting, settledVar, settle}
-use Rattle.plexil.specs.Form.{ofType, goodPlace, goodState}
-use Rattle.plexil.specs.Promises.{IsAdmitted, IsKept, Sized, FromKept, AnyOrder}
-use Rattle.plexil.proofs.ListLaws.{tested, every-at, every-cons, every-stop, every-one, some-cons, some-one, allBelow-at}
+use Rattle.plexil.specs.Order.{Carry, carryNothing, walk, leads, lost, enteredWaiting, settledVar, settle}
+use Rattle.plexil.specs.Promises.{IsAdmitted, Sized, AnyOrder}
+use Rattle.plexil.proofs.ListLaws.{tested, every-at, every-cons, every-stop, every-one, some-cons, some-one}
 use Rattle.plexil.proofs.RenewLaws.{is-renew, renew-same}
 use Rattle.plexil.proofs.Admitted.{few-nodes, few-vars, owner-below, good-node}
-use Rattle.plexil.proofs.Landing.{not-list, not-command, wroteBy, enteredBy, wrote-is, entered-is}
-use Rattle.plexil.proofs.Visit.{placeAt, bestAt}
+use Rattle.plexil.proofs.Landing.{not-list, not-command, enteredBy, entered-is}
+use Rattle.plexil.proofs.Visit.{placeAt, wroteAt, bestAt}
 use Rattle.plexil.proofs.Settling.{met-leads, met-settles}
 use Rattle.plexil.proofs.Walk.{count-nil, Walked, walked}
 
--- what the walk asks of a plan and a state: nodes, variables and their owners within the arrays, Finishing in lists only
-pub record Fits (p : Image) (s : State) : Type 0 where
+-- what the walk asks of a plan: nodes, variables and their owners within the arrays
+pub record Fits (p : Image) : Type 0 where
   pub nodes : nodeCount p ≤ 256
   pub variables : varCount p ≤ 128
   pub targets : (i : ℕ) → i < nodeCount p → isAssignment p i ≡ true → what p i < 128
   pub owners : (v : ℕ) → v < varCount p → owner p v < nodeCount p
-  pub finishing : (i : ℕ) → i < nodeCount p → some (not (same (statusAt s i) Finishing) ∷ isList p i ∷ []) ≡ true
 
-module _ (p : Image) (s : State) (ok : Fits p s) (z : Sized s) (c : Carry) (k : Walked p s [] c) where
+module _ (p : Image) (s : State) (ok : Fits p) (z : Sized s) (c : Carry) (k : Walked p s [] c) where
   place-is : (i : ℕ) → i < nodeCount p → placeAt c i ≡ place p s i
   place-is i b = k .done i b (count-nil i)
 
   -- ---- the losers
-  wrote-writes : (i : ℕ) → i < nodeCount p → wrote p s c i ≡ writes p s i
-  unfolding wrote
-  wrote-writes i b = ap (wroteBy p s i) (place-is i b) ∙ wrote-is p s i (ok .finishing i b)
+  wrote-writes : (i : ℕ) → i < nodeCount p → wroteAt c i ≡ writes p s i
+  wrote-writes i b = k .told i b (count-nil i)
 
   leads-keeps : (i : ℕ) → i < nodeCount p → writes p s i ≡ true → leads p c i ≡ not (loses p s i)
   unfolding leads writes
@@ -52,7 +48,7 @@ module _ (p : Image) (s : State) (ok : Fits p s) (z : Sized s) (c : Carry) (k : 
       met-leads p s (what p i) _ count-nil (bestAt c (what p i)) i (record { within = b; target = refl; writing = w })
       (k .met (what p i) (ok .targets i b (every-at _ 0 w)))
 
-  lost-loses : (i : ℕ) → i < nodeCount p → lost p s c i ≡ loses p s i
+  lost-loses : (i : ℕ) → i < nodeCount p → lost p c i ≡ loses p s i
   unfolding lost loses
   lost-loses i b =
       ⊎-elim
@@ -73,11 +69,11 @@ module _ (p : Image) (s : State) (ok : Fits p s) (z : Sized s) (c : Carry) (k : 
       ∙ met-settles p s v _ count-nil (bestAt c v) (k .met v (omega (arith, ok .variables)))
 
   -- ---- the whole state
-  outcome-after : (i : ℕ) → i < nodeCount p → (if lost p s c i then Failure else getD (c .outcome) i 0) ≡ outcomeAfter p s i
+  outcome-after : (i : ℕ) → i < nodeCount p → (if lost p c i then Failure else getD (c .outcome) i 0) ≡ outcomeAfter p s i
   unfolding outcomeAfter
   outcome-after i b = λ j. if lost-loses i b j then Failure else place-is i b j .outcome
 
-  failure-after : (i : ℕ) → i < nodeCount p → (if lost p s c i then WriteLost else getD (c .failure) i 0) ≡ failureAfter p s i
+  failure-after : (i : ℕ) → i < nodeCount p → (if lost p c i then WriteLost else getD (c .failure) i 0) ≡ failureAfter p s i
   unfolding failureAfter
   failure-after i b = λ j. if lost-loses i b j then WriteLost else place-is i b j .failure
 
@@ -100,11 +96,11 @@ module _ (p : Image) (s : State) (ok : Fits p s) (z : Sized s) (c : Carry) (k : 
     lookbits = s .lookbits;
   }
 
--- the stronger form: the plan need not be admitted, nor the state kept
-pub any-order-of : (p : Image) (s : State) → Fits p s → Sized s → AnyOrder p s
+-- the stronger form: the plan need not be admitted
+pub any-order-of : (p : Image) (s : State) → Fits p → Sized s → AnyOrder p s
 any-order-of p s ok z order h = settle-step p s ok z (walk p s order (carryNothing s)) (walked p s (ok .nodes) order h z)
 
--- ---- an admitted plan and a kept state
+-- ---- an admitted plan
 target-below : (p : Image) → IsAdmitted p → (i : ℕ) → i < nodeCount p → isAssignment p i ≡ true → what p i < varCount p
 unfolding goodNode goodWhat
 target-below p a i b t =
@@ -112,15 +108,13 @@ target-below p a i b t =
     let only = some-cons _ _ (every-stop _ _ (not-list p i t)) ∙ some-cons _ _ (every-stop _ _ (not-command p i t)) ∙ some-one _ in
     ltb-true _ _ (every-at _ 1 (sym only ∙ good))
 
-pub fits : (p : Image) (s : State) → IsAdmitted p → IsKept p s → Fits p s
-unfolding goodState goodPlace ofType
-fits p s a kept = record {
+pub fits : (p : Image) → IsAdmitted p → Fits p
+fits p a = record {
   nodes = few-nodes p a;
   variables = few-vars p a;
   targets = λ i b t. omega (arith, target-below p a i b t, few-vars p a);
   owners = owner-below p a;
-  finishing = λ i b. every-at _ 0 (every-at _ 4 (allBelow-at (nodeCount p) (goodPlace p s) (every-at _ 0 kept) i b));
 }
 
-pub any-order : FromKept (λ p s. Sized s → AnyOrder p s)
-any-order p s a kept = any-order-of p s (fits p s a kept)
+pub any-order : (p : Image) (s : State) → IsAdmitted p → Sized s → AnyOrder p s
+any-order p s a = any-order-of p s (fits p a)

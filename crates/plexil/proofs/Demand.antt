@@ -40,7 +40,7 @@ sound p s h =
       table = table-of p s k;
       notBoth = not-written-and-reset p s a k;
       writers = writers-settled p s;
-      anyOrder = any-order p s a k (h .sized);
+      anyOrder = any-order p s a (h .sized);
     }
 
 pub demand-3 : Demand3

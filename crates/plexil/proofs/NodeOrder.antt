@@ -11,7 +11,7 @@ use Rattle.plexil.specs.Lists.{if_then_else_, countFrom}
 use Rattle.plexil.specs.Image.{Image, nodeCount}
 use Rattle.plexil.specs.Micro.{step}
 use Rattle.plexil.specs.Order.{Carry, carryNothing, visit, walk, walkTo, settle, count, NamesOnce}
-use Rattle.plexil.specs.Promises.{IsAdmitted, IsKept, Sized}
+use Rattle.plexil.specs.Promises.{IsAdmitted, Sized}
 use Rattle.plexil.proofs.ListLaws.{same?, if-true, if-false}
 use Rattle.plexil.proofs.Visit.{Lengths, visit-lengths}
 use Rattle.plexil.proofs.Walk.{count-nil, count-same, count-other, start-lengths}
@@ -60,10 +60,10 @@ unfolding NamesOnce
 node-order-once p j = count-from (nodeCount p) 0 j (omega arith) ∙ ap (λ (n : ℕ). if ltb j n then 1 else 0) (omega arith)
 
 -- ---- settled
-pub node-order-of : (p : Image) (s : State) → Fits p s → Sized s → settle p s (walkTo p s (carryNothing s) (nodeCount p)) ≡ step p s
+pub node-order-of : (p : Image) (s : State) → Fits p → Sized s → settle p s (walkTo p s (carryNothing s) (nodeCount p)) ≡ step p s
 node-order-of p s ok z =
     ap (settle p s) (sym (walk-in-order p s (carryNothing s) (nodeCount p)))
     ∙ any-order-of p s ok z (countFrom 0 (λ k. k) (nodeCount p)) (node-order-once p)
 
-pub node-order : (p : Image) (s : State) → IsAdmitted p → IsKept p s → Sized s → settle p s (walkTo p s (carryNothing s) (nodeCount p)) ≡ step p s
-node-order p s a kept z = node-order-of p s (fits p s a kept) z
+pub node-order : (p : Image) (s : State) → IsAdmitted p → Sized s → settle p s (walkTo p s (carryNothing s) (nodeCount p)) ≡ step p s
+node-order p s a z = node-order-of p s (fits p a) z

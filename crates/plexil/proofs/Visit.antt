@@ -1,7 +1,8 @@
--- One visit of a walk: the place of its node is new, what is carried of the variable it writes has met it, and all else stays.
+-- One visit of a walk: the place of its node is new, whether it wrote is known, what is carried of the variable it writes has met it, and all else stays.
 use Prim.Native.Nat.{ℕ, _+_, _<_}
 use mathlib.Core.Path.{_≡_, refl, sym, ap, _∙_}
 use mathlib.Core.Bool.{Bool, true, false}
+use mathlib.Core.List.{List}
 use lib.Dec.{eqb, ltb}
 use lib.ListN.{getD, length, length-set}
 use lib.Seq.{getD-set-same, getD-set-other}
@@ -20,6 +21,9 @@ use Rattle.plexil.proofs.Meeting.{Best, meetBest}
 abbrev pub placeAt : Carry → ℕ → Place
 placeAt c j = record { status = getD (c .status) j 0; outcome = getD (c .outcome) j 0; failure = getD (c .failure) j 0; mark = getD (c .mark) j 0 }
 
+abbrev pub wroteAt : Carry → ℕ → Bool
+wroteAt c j = getD (c .wrote) j false
+
 abbrev pub bestAt : Carry → ℕ → Best
 bestAt c v = record { top = getD (c .top) v 0; node = getD (c .node) v 0; value = cell (getD (c .tags) v 0) (getD (c .bits) v 0); tied = getD (c .tied) v 0 }
 
@@ -28,6 +32,7 @@ pub record Lengths (c : Carry) : Type 0 where
   pub outcome : length (c .outcome) ≡ 256
   pub failure : length (c .failure) ≡ 256
   pub mark : length (c .mark) ≡ 256
+  pub wrote : length (c .wrote) ≡ 256
   pub top : length (c .top) ≡ 128
   pub node : length (c .node) ≡ 128
   pub tags : length (c .tags) ≡ 128
@@ -35,13 +40,14 @@ pub record Lengths (c : Carry) : Type 0 where
   pub tied : length (c .tied) ≡ 128
 
 -- ---- lengths stay
-put-lengths : (c : Carry) (i : ℕ) (r : Place) → Lengths c → Lengths (putPlace c i r)
+put-lengths : (c : Carry) (i : ℕ) (r : Place) (w : Bool) → Lengths c → Lengths (putPlace c i r w)
 unfolding putPlace
-put-lengths c i r z = record {
+put-lengths c i r w z = record {
   status = simp length-set (z .status);
   outcome = simp length-set (z .outcome);
   failure = simp length-set (z .failure);
   mark = simp length-set (z .mark);
+  wrote = simp length-set (z .wrote);
   top = z .top;
   node = z .node;
   tags = z .tags;
@@ -58,6 +64,7 @@ meet-lengths c v t i x z =
       outcome = z .outcome;
       failure = z .failure;
       mark = z .mark;
+      wrote = z .wrote;
       top = simp length-set (z .top);
       node = simp length-set (z .node);
       tags = simp length-set (z .tags);
@@ -70,6 +77,7 @@ meet-lengths c v t i x z =
       outcome = z .outcome;
       failure = z .failure;
       mark = z .mark;
+      wrote = z .wrote;
       top = z .top;
       node = z .node;
       tags = z .tags;
@@ -81,7 +89,7 @@ meet-lengths c v t i x z =
 pub visit-lengths : (p : Image) (s : State) (c : Carry) (i : ℕ) → Lengths c → Lengths (visit p s c i)
 unfolding visit
 visit-lengths p s c i z =
-    let y = put-lengths c i (place p s i) z in
+    let y = put-lengths c i (place p s i) (writes p s i) z in
     if-either Lengths (writes p s i) _ _ (λ e. meet-lengths _ _ _ i _ y) (λ e. y)
 
 -- ---- places
@@ -90,34 +98,49 @@ unfolding meet
 meet-place c v t i x j =
     if-either (λ (d : Carry). placeAt d j ≡ placeAt c j) _ _ _ (λ e. refl) (λ e. if-either (λ (d : Carry). placeAt d j ≡ placeAt c j) _ _ _ (λ q. refl) (λ q. refl))
 
-visit-place : (p : Image) (s : State) (c : Carry) (i j : ℕ) → placeAt (visit p s c i) j ≡ placeAt (putPlace c i (place p s i)) j
-unfolding visit
-visit-place p s c i j =
-    if-either (λ (d : Carry). placeAt d j ≡ placeAt (putPlace c i (place p s i)) j) (writes p s i) _ _ (λ e. meet-place _ _ _ i _ j) (λ e. refl)
+meet-wrote : (c : Carry) (v t i : ℕ) (x : Cell) → meet c v t i x .wrote ≡ c .wrote
+unfolding meet
+meet-wrote c v t i x =
+    if-either (λ (d : Carry). d .wrote ≡ c .wrote) _ _ _ (λ e. refl) (λ e. if-either (λ (d : Carry). d .wrote ≡ c .wrote) _ _ _ (λ q. refl) (λ q. refl))
 
-put-here : (c : Carry) (i : ℕ) (r : Place) → Lengths c → i < 256 → placeAt (putPlace c i r) i ≡ r
-unfolding putPlace
-put-here c i r z b = λ k. record {
-  status = getD-set-same (c .status) i (r .status) 0 (rw (z .status) b) k;
-  outcome = getD-set-same (c .outcome) i (r .outcome) 0 (rw (z .outcome) b) k;
-  failure = getD-set-same (c .failure) i (r .failure) 0 (rw (z .failure) b) k;
-  mark = getD-set-same (c .mark) i (r .mark) 0 (rw (z .mark) b) k;
-}
+module _ (p : Image) (s : State) (c : Carry) (i : ℕ) where
+  -- node i's place put, and whether it wrote
+  put : Carry
+  put = putPlace c i (place p s i) (writes p s i)
 
-put-there : (c : Carry) (i j : ℕ) (r : Place) → (j ≡ i → ⊥) → placeAt (putPlace c i r) j ≡ placeAt c j
-unfolding putPlace
-put-there c i j r apart = λ k. record {
-  status = getD-set-other (c .status) i j (r .status) 0 apart k;
-  outcome = getD-set-other (c .outcome) i j (r .outcome) 0 apart k;
-  failure = getD-set-other (c .failure) i j (r .failure) 0 apart k;
-  mark = getD-set-other (c .mark) i j (r .mark) 0 apart k;
-}
+  visit-place : (j : ℕ) → placeAt (visit p s c i) j ≡ placeAt put j
+  unfolding visit put
+  visit-place j = if-either (λ (d : Carry). placeAt d j ≡ placeAt put j) (writes p s i) _ _ (λ e. meet-place _ _ _ i _ j) (λ e. refl)
 
-pub visit-here : (p : Image) (s : State) (c : Carry) (i : ℕ) → Lengths c → i < 256 → placeAt (visit p s c i) i ≡ place p s i
-visit-here p s c i z b = visit-place p s c i i ∙ put-here c i (place p s i) z b
+  visit-wrote : visit p s c i .wrote ≡ put .wrote
+  unfolding visit put
+  visit-wrote = if-either (λ (d : Carry). d .wrote ≡ put .wrote) (writes p s i) _ _ (λ e. meet-wrote _ _ _ i _) (λ e. refl)
 
-pub visit-there : (p : Image) (s : State) (c : Carry) (i j : ℕ) → (j ≡ i → ⊥) → placeAt (visit p s c i) j ≡ placeAt c j
-visit-there p s c i j apart = visit-place p s c i j ∙ put-there c i j (place p s i) apart
+  pub visit-here : Lengths c → i < 256 → placeAt (visit p s c i) i ≡ place p s i
+  unfolding put putPlace
+  visit-here z b = visit-place i ∙ λ k. record {
+    status = getD-set-same (c .status) i (place p s i .status) 0 (rw (z .status) b) k;
+    outcome = getD-set-same (c .outcome) i (place p s i .outcome) 0 (rw (z .outcome) b) k;
+    failure = getD-set-same (c .failure) i (place p s i .failure) 0 (rw (z .failure) b) k;
+    mark = getD-set-same (c .mark) i (place p s i .mark) 0 (rw (z .mark) b) k;
+  }
+
+  pub visit-there : (j : ℕ) → (j ≡ i → ⊥) → placeAt (visit p s c i) j ≡ placeAt c j
+  unfolding put putPlace
+  visit-there j apart = visit-place j ∙ λ k. record {
+    status = getD-set-other (c .status) i j (place p s i .status) 0 apart k;
+    outcome = getD-set-other (c .outcome) i j (place p s i .outcome) 0 apart k;
+    failure = getD-set-other (c .failure) i j (place p s i .failure) 0 apart k;
+    mark = getD-set-other (c .mark) i j (place p s i .mark) 0 apart k;
+  }
+
+  pub wrote-here : Lengths c → i < 256 → wroteAt (visit p s c i) i ≡ writes p s i
+  unfolding put putPlace
+  wrote-here z b = ap (λ (l : List Bool). getD l i false) visit-wrote ∙ getD-set-same (c .wrote) i (writes p s i) false (rw (z .wrote) b)
+
+  pub wrote-there : (j : ℕ) → (j ≡ i → ⊥) → wroteAt (visit p s c i) j ≡ wroteAt c j
+  unfolding put putPlace
+  wrote-there j apart = ap (λ (l : List Bool). getD l j false) visit-wrote ∙ getD-set-other (c .wrote) i j (writes p s i) false apart
 
 -- ---- what is carried of a variable
 if-map : {A B : Type 0} (f : A → B) (b : Bool) {x y : A} {u w : B} → f x ≡ u → f y ≡ w → f (if b then x else y) ≡ (if b then u else w)
@@ -158,12 +181,12 @@ pub visit-meets : (p : Image) (s : State) (c : Carry) (i v : ℕ) → Lengths c 
 unfolding visit putPlace
 visit-meets p s c i v z w q b =
     ap (λ (d : Carry). bestAt d v) (if-true (writes p s i) _ _ w)
-    ∙ ap (λ (u : ℕ). bestAt (meet (putPlace c i (place p s i)) u (priority p i + 1) i (written p s i)) v) q
-    ∙ meet-here (putPlace c i (place p s i)) v (priority p i + 1) i (written p s i) (put-lengths c i (place p s i) z) b
+    ∙ ap (λ (u : ℕ). bestAt (meet (putPlace c i (place p s i) (writes p s i)) u (priority p i + 1) i (written p s i)) v) q
+    ∙ meet-here (putPlace c i (place p s i) (writes p s i)) v (priority p i + 1) i (written p s i) (put-lengths c i (place p s i) (writes p s i) z) b
 
 pub visit-leaves : (p : Image) (s : State) (c : Carry) (i v : ℕ) → (writes p s i ≡ true → what p i ≡ v → ⊥) → bestAt (visit p s c i) v ≡ bestAt c v
 unfolding visit putPlace
 visit-leaves p s c i v other =
     if-either (λ (d : Carry). bestAt d v ≡ bestAt c v) (writes p s i) _ _
-    (λ w. meet-there (putPlace c i (place p s i)) (what p i) (priority p i + 1) i (written p s i) v (λ q. other w (sym q)))
+    (λ w. meet-there (putPlace c i (place p s i) (writes p s i)) (what p i) (priority p i + 1) i (written p s i) v (λ q. other w (sym q)))
     (λ w. refl)

@@ -1,8 +1,8 @@
--- A whole walk: each node visited has its next place, and what is carried of each variable has met its writers among them.
+-- A whole walk: each node visited has its next place and told whether it wrote, and what is carried of each variable has met its writers among them.
 use Prim.Native.Nat.{ℕ, suc, _≤_, _<_}
 use mathlib.Core.Path.{_≡_, refl, sym, _∙_, subst}
 use mathlib.Core.Logic.{_⊎_, inl, inr, ⊎-elim}
-use mathlib.Core.Bool.{true, false}
+use mathlib.Core.Bool.{Bool, true, false}
 use mathlib.Core.List.{List, [], _∷_}
 use native.Mathlib.Omega.{arith}
 use lib.Dec.{ltb}
@@ -15,7 +15,7 @@ use Rattle.plexil.specs.Order.{Carry, carryNothing, visit, walk, count, 
 use Rattle.plexil.specs.Promises.{Writer, Sized}
 use Rattle.plexil.proofs.ListLaws.{tested, not-both, same?, if-true, if-false}
 use Rattle.plexil.proofs.Meeting.{Best, Grows, Met, nobody, met-skip, met-more}
-use Rattle.plexil.proofs.Visit.{placeAt, bestAt, Lengths, visit-lengths, visit-here, visit-there, visit-meets, visit-leaves}
+use Rattle.plexil.proofs.Visit.{placeAt, wroteAt, bestAt, Lengths, visit-lengths, visit-here, visit-there, wrote-here, wrote-there, visit-meets, visit-leaves}
 
 -- ---- counts
 pub count-same : (i : ℕ) (l : List ℕ) → count i (i ∷ l) ≡ suc (count i l)
@@ -42,6 +42,7 @@ module _ (p : Image) (s : State) where
   pub record Walked (l : List ℕ) (c : Carry) : Type 0 where
     pub lengths : Lengths c
     pub done : (j : ℕ) → j < nodeCount p → count j l ≡ 0 → placeAt c j ≡ place p s j
+    pub told : (j : ℕ) → j < nodeCount p → count j l ≡ 0 → wroteAt c j ≡ writes p s j
     pub past : (j : ℕ) → nodeCount p ≤ j → placeAt c j ≡ placeAt (carryNothing s) j
     pub met : (v : ℕ) → v < 128 → Met p s v (λ j. count j l ≡ 0) (bestAt c v)
 
@@ -66,13 +67,14 @@ module _ (p : Image) (s : State) where
   unfolding carryNothing
   start-lengths z =
       let long : length {A = ℕ} (replicate 128 0) ≡ 128 = length-replicate {A = ℕ} 128 0 in
-      record { status = z .status; outcome = z .outcome; failure = z .failure; mark = z .mark; top = long; node = long; tags = long; bits = long; tied = long }
+      record { status = z .status; outcome = z .outcome; failure = z .failure; mark = z .mark; wrote = length-replicate {A = Bool} 256 false; top = long; node = long; tags = long; bits = long; tied = long }
 
   walked-start : (l : List ℕ) → NamesOnce p l → Sized s → Walked l (carryNothing s)
   unfolding carryNothing
   walked-start l h z = record {
     lengths = start-lengths z;
     done = λ j b e. absurd (named l h j b e);
+    told = λ j b e. absurd (named l h j b e);
     past = λ j b. refl;
     met = λ v b. nobody (getD-replicate 128 v 0 0 b) (λ j e w. named l h j (w .within) e);
   }
@@ -119,6 +121,10 @@ module _ (p : Image) (s : State) where
         done = λ j b e. ⊎-elim
             (λ (q : j ≡ i). rw q (visit-here p s c i (k .lengths) (omega (arith, below))))
             (λ apart. visit-there p s c i j apart ∙ k .done j b (count-other i j l apart ∙ e))
+            (same? j i);
+        told = λ j b e. ⊎-elim
+            (λ (q : j ≡ i). rw q (wrote-here p s c i (k .lengths) (omega (arith, below))))
+            (λ apart. wrote-there p s c i j apart ∙ k .told j b (count-other i j l apart ∙ e))
             (same? j i);
         past = λ j b. visit-there p s c i j (λ q. omega (arith, below)) ∙ k .past j b;
         met = λ v b. visit-met c (k .lengths) v b (k .met v b);

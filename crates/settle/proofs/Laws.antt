@@ -7,13 +7,12 @@ use native.Mathlib.Omega.{arith}
 use lib.Dec.{eqb, ltb}
 use lib.ListN.{getD}
 use Rattle.plexil.specs.declared.State.{State}
-use Rattle.plexil.specs.declared.Status.the-variants.{Waiting, Executing, IterationEnded}
+use Rattle.plexil.specs.declared.Status.the-variants.{Waiting}
 use Rattle.plexil.specs.Lists.{if_then_else_, every}
 use Rattle.plexil.specs.Values.{cell}
-use Rattle.plexil.specs.Image.{Image, nodeType, what, owner}
+use Rattle.plexil.specs.Image.{Image, what, owner}
 use Rattle.plexil.specs.Places.{statusOf, statusCode, same, statusAt, varCell, initial}
-use Rattle.plexil.specs.Records.{isAssignment}
-use Rattle.plexil.specs.Order.{Carry, wrote, leads, lost, enteredWaiting, settledVar}
+use Rattle.plexil.specs.Order.{Carry, leads, lost, enteredWaiting, settledVar}
 use Rattle.places.proofs.StatusLaws.{same-code}
 
 -- ---- statuses by their codes
@@ -21,20 +20,7 @@ is-waiting : (n : ℕ) → same (statusOf n) Waiting ≡ eqb n 1
 unfolding statusCode
 is-waiting n = same-code n Waiting (omega arith)
 
-is-executing : (n : ℕ) → same (statusOf n) Executing ≡ eqb n 2
-unfolding statusCode
-is-executing n = same-code n Executing (omega arith)
-
-is-ended : (n : ℕ) → same (statusOf n) IterationEnded ≡ eqb n 5
-unfolding statusCode
-is-ended n = same-code n IterationEnded (omega arith)
-
 -- ---- the tests over the lists of s and c
-pub wrote-by : (p : Image) (s : State) (c : Carry) (i f : ℕ) (st st2 : List ℕ) → s .status ≡ st → c .status ≡ st2 → getD (c .failure) i 0 ≡ f
-    → wrote p s c i ≡ every (eqb (nodeType p i) 2 ∷ eqb (getD st i 0) 2 ∷ eqb (getD st2 i 0) 5 ∷ ltb f 3 ∷ [])
-unfolding wrote isAssignment statusAt
-wrote-by p s c i f st st2 h g e = rw (h, g, e, is-executing, is-ended)
-
 pub leads-by : (p : Image) (c : Carry) (i v : ℕ) (node tied : List ℕ) → v ≡ what p i → c .node ≡ node → c .tied ≡ tied
     → leads p c i ≡ every (eqb (getD node v 0) i ∷ eqb (getD tied v 0) 0 ∷ [])
 unfolding leads
@@ -54,5 +40,5 @@ unfolding settledVar
 settled-by p s c v top tags bits tied h g k m = rw (h, g, k, m)
 
 -- ---- what a loser gets in a list, x, and what the others keep
-abbrev pub losersGet : Image → State → Carry → ℕ → List ℕ → ℕ → ℕ
-losersGet p s c x l i = if lost p s c i then x else getD l i 0
+abbrev pub losersGet : Image → Carry → ℕ → List ℕ → ℕ → ℕ
+losersGet p c x l i = if lost p c i then x else getD l i 0

@@ -17,7 +17,7 @@ use Rattle.plexil.specs.Records.{isAssignment}
 use Rattle.plexil.specs.Atomic.{moveOf}
 use Rattle.plexil.specs.Micro.{judges, writes, written, placeBy, place, sentBy, sent, stays}
 use Rattle.plexil.specs.Order.{Carry, putPlace, meet, visit, walkTo}
-use Rattle.plexil.specs.Promises.{IsAdmitted, IsKept}
+use Rattle.plexil.specs.Promises.{IsAdmitted}
 use Rattle.plexil.proofs.ListLaws.{if-true, if-false, every-at, allBelow-not}
 use Rattle.plexil.proofs.RenewLaws.{whole}
 use Rattle.plexil.proofs.LoopLaws.{all-next, allBelow-more}
@@ -40,25 +40,29 @@ module _ (p : Image) (s : State) (i : ℕ) {m : Move} (e : m ≡ moveOf p s i) w
   unfolding place
   place-is h = h ∙ ap (placeBy p s i) e
 
-  module _ {r : Place} (f : r ≡ placeBy p s i m) {w : Bool} (g : w ≡ every (isAssignment p i ∷ judges m ∷ [])) (c : Carry) {c₁ : Carry} (h : c₁ ≡ putPlace c i r) where
-    put-is : c₁ ≡ putPlace c i (place p s i)
-    put-is = h ∙ ap (putPlace c i) (place-is f)
+  module _ {r : Place} (f : r ≡ placeBy p s i m) {w : Bool} (g : w ≡ every (isAssignment p i ∷ judges m ∷ [])) (c : Carry) {c₁ : Carry} (h : c₁ ≡ putPlace c i r w) where
+    -- node i's place put, and whether it wrote
+    abbrev put : Carry
+    put = putPlace c i (place p s i) (writes p s i)
+
+    put-is : c₁ ≡ put
+    put-is = h ∙ λ k. putPlace c i (place-is f k) (writes-is g k)
 
     pub visit-writes : w ≡ true → {v t : ℕ} {x : Cell} {c₂ : Carry} → v ≡ what p i → t ≡ priority p i + 1 → x ≡ written p s i → c₂ ≡ meet c₁ v t i x → c₂ ≡ visit p s c i
     unfolding visit
     visit-writes b {v} {t} {x} a d k q =
         q ∙ (ap (λ (y : Carry). meet y v t i x) put-is
-        ∙ (ap (λ (y : ℕ). meet (putPlace c i (place p s i)) y t i x) a
-        ∙ (ap (λ (y : ℕ). meet (putPlace c i (place p s i)) (what p i) y i x) d
-        ∙ (ap (meet (putPlace c i (place p s i)) (what p i) (priority p i + 1) i) k ∙ sym (if-true _ _ _ (sym (writes-is g) ∙ b))))))
+        ∙ (ap (λ (y : ℕ). meet put y t i x) a
+        ∙ (ap (λ (y : ℕ). meet put (what p i) y i x) d
+        ∙ (ap (meet put (what p i) (priority p i + 1) i) k ∙ sym (if-true _ _ _ (sym (writes-is g) ∙ b))))))
 
     pub visit-passes : w ≡ false → c₁ ≡ visit p s c i
     unfolding visit
     visit-passes b = put-is ∙ sym (if-false _ _ _ (sym (writes-is g) ∙ b))
 
   -- a writer is an assignment, so its target is a variable
-  pub target-below : IsAdmitted p → IsKept p s → i < nodeCount p → {w : Bool} → w ≡ every (isAssignment p i ∷ judges m ∷ []) → w ≡ true → {v : ℕ} → v ≡ what p i → v < 128
-  target-below a k b g t q = rw q (fits p s a k .targets i b (every-at _ 0 (sym g ∙ t)))
+  pub target-below : IsAdmitted p → i < nodeCount p → {w : Bool} → w ≡ every (isAssignment p i ∷ judges m ∷ []) → w ≡ true → {v : ℕ} → v ≡ what p i → v < 128
+  target-below a b g t q = rw q (fits p a .targets i b (every-at _ 0 (sym g ∙ t)))
 
 pub written-is : (p : Image) (s : State) (i : ℕ) {e : ℕ} {v : Worked} {x : Cell} → e ≡ valueField p i → v ≡ valueOf p s e → x ≡ encode v → x ≡ written p s i
 unfolding written

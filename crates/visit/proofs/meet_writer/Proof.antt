@@ -39,18 +39,18 @@ element-write-tied c = search needs
 
 returns : tie.Need-returns
 unfolding meet
-returns c = λ st oc fl mk. sym (if-true _ _ _ (lt-ltb _ _ (c .if1 .taken)))
+returns c = λ st oc fl mk wr. sym (if-true _ _ _ (lt-ltb _ _ (c .if1 .taken)))
 
 element-write-tied-2 : tie.Need-element-write-tied-2
 element-write-tied-2 c = search needs
 
 returns-2 : tie.Need-returns-2
 unfolding meet
-returns-2 c = λ st oc fl mk. sym (if-false _ _ _ (le-ltb _ _ (c .before .if1 .left)) ∙ if-true _ _ _ (eq-eqb _ _ (c .if2 .taken)))
+returns-2 c = λ st oc fl mk wr. sym (if-false _ _ _ (le-ltb _ _ (c .before .if1 .left)) ∙ if-true _ _ _ (eq-eqb _ _ (c .if2 .taken)))
 
 returns-3 : tie.Need-returns-3
 unfolding meet
-returns-3 c = λ st oc fl mk. sym (if-false _ _ _ (le-ltb _ _ (c .before .if1 .left)) ∙ if-false _ _ _ (ne-eqb _ _ (c .if2 .left)))
+returns-3 c = λ st oc fl mk wr. sym (if-false _ _ _ (le-ltb _ _ (c .before .if1 .left)) ∙ if-false _ _ _ (ne-eqb _ _ (c .if2 .left)))
 
 pub meet-writer-spec : {M : Type 1} → statement M
 meet-writer-spec =

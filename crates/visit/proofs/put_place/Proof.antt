@@ -1,4 +1,4 @@
--- Four stores.
+-- Five stores.
 use mathlib.Core.Path.{refl}
 use Rattle.plexil.specs.Order.{putPlace}
 use borrow.Author.Needs.{needs}
@@ -17,6 +17,9 @@ element-write-fl2 c = search needs
 element-write-mk2 : tie.Need-element-write-mk2
 element-write-mk2 c = search needs
 
+element-write-wrote : tie.Need-element-write-wrote
+element-write-wrote c = search needs
+
 returns : tie.Need-returns
 unfolding putPlace
 returns c = λ top node tags bits tied. refl
@@ -24,4 +27,4 @@ returns c = λ top node tags bits tied. refl
 pub put-place-spec : {M : Type 1} → statement M
 put-place-spec =
     tie.close
-    (tie.spec element-write-st2 element-write-oc2 element-write-fl2 element-write-mk2 returns)
+    (tie.spec element-write-st2 element-write-oc2 element-write-fl2 element-write-mk2 element-write-wrote returns)

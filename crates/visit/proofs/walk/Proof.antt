@@ -17,13 +17,13 @@ use Rattle.visit.proofs.walk.Statement.{statement}
 use Rattle.visit.proofs.walk.Tie as tie
 
 abbrev Inv-loop : tie.InvT-loop
-Inv-loop image st oc fl mk vt vb lt lb n finished resting st2₀ oc2₀ fl2₀ mk2₀ top₀ node₀ tags₀ bits₀ tied₀ sent₀ moved₀ i₀ st2 oc2 fl2 mk2 top node tags bits tied sent moved i =
+Inv-loop image st oc fl mk vt vb lt lb n finished resting st2₀ oc2₀ fl2₀ mk2₀ wrote₀ top₀ node₀ tags₀ bits₀ tied₀ sent₀ moved₀ i₀ st2 oc2 fl2 mk2 wrote top node tags bits tied sent moved i =
     (i ≤ n) × (moved ≡ not (allBelow i (λ (k : ℕ). stays (moveOf image (stateOf st oc fl mk vt vb lt lb) k))))
-    × (carryOf st2 oc2 fl2 mk2 top node tags bits tied ≡ walkTo image (stateOf st oc fl mk vt vb lt lb) (carryOf st2₀ oc2₀ fl2₀ mk2₀ top₀ node₀ tags₀ bits₀ tied₀) i)
+    × (carryOf st2 oc2 fl2 mk2 wrote top node tags bits tied ≡ walkTo image (stateOf st oc fl mk vt vb lt lb) (carryOf st2₀ oc2₀ fl2₀ mk2₀ wrote₀ top₀ node₀ tags₀ bits₀ tied₀) i)
     × (sent ≡ renew i (sentOf image (stateOf st oc fl mk vt vb lt lb)) sent₀)
 
 abbrev μ-loop : tie.MeasureT-loop
-μ-loop image st oc fl mk vt vb lt lb n finished resting st2₀ oc2₀ fl2₀ mk2₀ top₀ node₀ tags₀ bits₀ tied₀ sent₀ moved₀ i₀ st2 oc2 fl2 mk2 top node tags bits tied sent moved i =
+μ-loop image st oc fl mk vt vb lt lb n finished resting st2₀ oc2₀ fl2₀ mk2₀ wrote₀ top₀ node₀ tags₀ bits₀ tied₀ sent₀ moved₀ i₀ st2 oc2 fl2 mk2 wrote top node tags bits tied sent moved i =
     n - i
 
 loop-holds : tie.Need-loop-holds Inv-loop μ-loop
@@ -40,10 +40,10 @@ element-copy-out-r : tie.Need-element-copy-out-r Inv-loop μ-loop
 element-copy-out-r c = omega (arith, few-nodes _ (c .before .before .before .before .before .before .before .before .before .before .before .before .pre .0), c .before .before .before .before .before .before .before .before .before .before .before .before .pre .2)
 
 visit-node-requires : tie.Need-visit-node-requires Inv-loop μ-loop
-visit-node-requires c κs = (c .before .before .before .before .before .before .before .before .before .before .before .before .before .before .before .before .before .before .before .before .before .before .before .pre .0, c .before .before .before .before .before .before .before .before .before .before .before .before .before .before .before .before .before .before .before .before .before .before .before .pre .1, omega (arith, c .before .before .before .before .before .before .before .before .before .before .before .before .before .before .before .before .before .before .before .before .before .before .before .pre .2), c .before .before .before .before .before .before .before .before .before .before .before .before .before .before .before .before .before .before .before .before .before .before .before .pre .4 _ (omega (arith, few-nodes _ (c .before .before .before .before .before .before .before .before .before .before .before .before .before .before .before .before .before .before .before .before .before .before .before .pre .0), c .before .before .before .before .before .before .before .before .before .before .before .before .before .before .before .before .before .before .before .before .before .before .before .pre .2)), c .before .before .before .before .before .before .before .before .before .before .before .before .before .before .before .before .before .before .before .before .before .before .before .pre .5 _ (omega (arith, few-nodes _ (c .before .before .before .before .before .before .before .before .before .before .before .before .before .before .before .before .before .before .before .before .before .before .before .pre .0), c .before .before .before .before .before .before .before .before .before .before .before .before .before .before .before .before .before .before .before .before .before .before .before .pre .2)))
+visit-node-requires c κs = (c .before .before .before .before .before .before .before .before .before .before .before .before .before .before .before .before .before .before .before .before .before .before .before .before .pre .0, c .before .before .before .before .before .before .before .before .before .before .before .before .before .before .before .before .before .before .before .before .before .before .before .before .pre .1, omega (arith, c .before .before .before .before .before .before .before .before .before .before .before .before .before .before .before .before .before .before .before .before .before .before .before .before .pre .2), c .before .before .before .before .before .before .before .before .before .before .before .before .before .before .before .before .before .before .before .before .before .before .before .before .pre .4 _ (omega (arith, few-nodes _ (c .before .before .before .before .before .before .before .before .before .before .before .before .before .before .before .before .before .before .before .before .before .before .before .before .pre .0), c .before .before .before .before .before .before .before .before .before .before .before .before .before .before .before .before .before .before .before .before .before .before .before .before .pre .2)), c .before .before .before .before .before .before .before .before .before .before .before .before .before .before .before .before .before .before .before .before .before .before .before .before .pre .5 _ (omega (arith, few-nodes _ (c .before .before .before .before .before .before .before .before .before .before .before .before .before .before .before .before .before .before .before .before .before .before .before .before .pre .0), c .before .before .before .before .before .before .before .before .before .before .before .before .before .before .before .before .before .before .before .before .before .before .before .before .pre .2)))
 
 add-i : tie.Need-add-i Inv-loop μ-loop
-add-i c = omega (arith, c .before .before .before .before .before .before .before .before .before .before .before .before .before .loop-test .taken, few-nodes _ (c .before .before .before .before .before .before .before .before .before .before .before .before .before .before .before .before .before .before .before .before .before .before .before .before .pre .0), c .before .before .before .before .before .before .before .before .before .before .before .before .before .before .before .before .before .before .before .before .before .before .before .before .pre .2)
+add-i c = omega (arith, c .before .before .before .before .before .before .before .before .before .before .before .before .before .before .loop-test .taken, few-nodes _ (c .before .before .before .before .before .before .before .before .before .before .before .before .before .before .before .before .before .before .before .before .before .before .before .before .before .pre .0), c .before .before .before .before .before .before .before .before .before .before .before .before .before .before .before .before .before .before .before .before .before .before .before .before .before .pre .2)
 
 loop-less : tie.Need-loop-less Inv-loop μ-loop
 loop-less c = omega arith
@@ -51,9 +51,9 @@ loop-less c = omega arith
 loop-again : tie.Need-loop-again Inv-loop μ-loop
 loop-again c = (
   omega arith,
-  allBelow-or _ _ _ _ (c .before .before .before .before .before .before .before .before .before .before .before .before .before .before .loop .inv .1) (c .visit-node .ensures .0),
-  walk-next _ _ _ _ (c .before .before .before .before .before .before .before .before .before .before .before .before .before .before .loop .inv .2) (c .visit-node .ensures .1),
-  c .visit-node .ensures .2 ∙ stored _ _ _ _ (c .before .before .before .before .before .before .before .before .before .before .before .before .before .before .loop .inv .3) (omega (arith, few-nodes _ (c .before .before .before .before .before .before .before .before .before .before .before .before .before .before .before .before .before .before .before .before .before .before .before .before .pre .0), c .before .before .before .before .before .before .before .before .before .before .before .before .before .before .before .before .before .before .before .before .before .before .before .before .pre .2, c .before .before .before .before .before .before .before .before .before .before .before .before .before .before .before .before .before .before .before .before .before .before .before .before .pre .3)) refl,
+  allBelow-or _ _ _ _ (c .before .before .before .before .before .before .before .before .before .before .before .before .before .before .before .loop .inv .1) (c .visit-node .ensures .0),
+  walk-next _ _ _ _ (c .before .before .before .before .before .before .before .before .before .before .before .before .before .before .before .loop .inv .2) (c .visit-node .ensures .1),
+  c .visit-node .ensures .2 ∙ stored _ _ _ _ (c .before .before .before .before .before .before .before .before .before .before .before .before .before .before .before .loop .inv .3) (omega (arith, few-nodes _ (c .before .before .before .before .before .before .before .before .before .before .before .before .before .before .before .before .before .before .before .before .before .before .before .before .before .pre .0), c .before .before .before .before .before .before .before .before .before .before .before .before .before .before .before .before .before .before .before .before .before .before .before .before .before .pre .2, c .before .before .before .before .before .before .before .before .before .before .before .before .before .before .before .before .before .before .before .before .before .before .before .before .before .pre .3)) refl,
 )
 
 returns : tie.Need-returns Inv-loop μ-loop
