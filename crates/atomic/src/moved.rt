@@ -17,7 +17,7 @@ ghost use Rattle.plexil.specs.declared.Effect.the-variants as effect;
 ghost use Rattle.plexil.specs.declared.Move.the-variants as move;
 ghost use Rattle.plexil.specs.Lists.{every};
 ghost use Rattle.plexil.specs.Places.{stateOf};
-ghost use Rattle.plexil.specs.Records.{isAssignment};
+ghost use Rattle.plexil.specs.Records.{isWriter};
 ghost use Rattle.plexil.specs.Micro.{isJudged, judges, markBy, endingBy, placeBy, sentBy, stays};
 ghost use Rattle.atomic.specs.Ending.{endingOf};
 
@@ -207,7 +207,7 @@ fn judges(m: Move) -> bool
 
 // "an assignment writes and goes to IterationEnded"
 pub fn writes(image: &[u8], i: u16, m: Move) -> bool
-    ensures { λ r. ⌜ r ≡ every (isAssignment (now (image .entry)) i ∷ judges m ∷ []) ⌝ }
+    ensures { λ r. ⌜ r ≡ every (isWriter (now (image .entry)) i ∷ judges m ∷ []) ⌝ }
 {
     if image::node_type(image, i) == 2 {
         return judges(m);

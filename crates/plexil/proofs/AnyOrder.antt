@@ -12,9 +12,9 @@ use Rattle.plexil.specs.declared.Cell.{Cell}
 use Rattle.plexil.specs.declared.State.{State}
 use Rattle.plexil.specs.declared.Place.{Place}
 use Rattle.plexil.specs.Lists.{if_then_else_, every}
-use Rattle.plexil.specs.Image.{Image, nodeCount, varCount, what, owner}
+use Rattle.plexil.specs.Image.{Image, nodeCount, varCount, owner}
 use Rattle.plexil.specs.Places.{initial, varCell, Failure, WriteLost}
-use Rattle.plexil.specs.Records.{isAssignment, goodWhat, goodNode}
+use Rattle.plexil.specs.Records.{isWriter, target, goodWhat, goodNode}
 use Rattle.plexil.specs.Atomic.{moveOf}
 use Rattle.plexil.specs.Micro.{writes, loses, place, outcomeAfter, failureAfter, entersWaiting, unwritten, varAfter, step}
 use Rattle.plexil.specs.Order.{Carry, carryNothing, walk, leads, lost, enteredWaiting, settledVar, settle}
@@ -31,7 +31,7 @@ use Rattle.plexil.proofs.Walk.{count-nil, Walked, walked}
 pub record Fits (p : Image) : Type 0 where
   pub nodes : nodeCount p ≤ 256
   pub variables : varCount p ≤ 128
-  pub targets : (i : ℕ) → i < nodeCount p → isAssignment p i ≡ true → what p i < 128
+  pub targets : (i : ℕ) → i < nodeCount p → isWriter p i ≡ true → target p i < 128
   pub owners : (v : ℕ) → v < varCount p → owner p v < nodeCount p
 
 module _ (p : Image) (s : State) (ok : Fits p) (z : Sized s) (c : Carry) (k : Walked p s [] c) where
@@ -45,8 +45,8 @@ module _ (p : Image) (s : State) (ok : Fits p) (z : Sized s) (c : Carry) (k : Wa
   leads-keeps : (i : ℕ) → i < nodeCount p → writes p s i ≡ true → leads p c i ≡ not (loses p s i)
   unfolding leads writes
   leads-keeps i b w =
-      met-leads p s (what p i) _ count-nil (bestAt c (what p i)) i (record { within = b; target = refl; writing = w })
-      (k .met (what p i) (ok .targets i b (every-at _ 0 w)))
+      met-leads p s (target p i) _ count-nil (bestAt c (target p i)) i (record { within = b; target = refl; writing = w })
+      (k .met (target p i) (ok .targets i b (every-at _ 0 w)))
 
   lost-loses : (i : ℕ) → i < nodeCount p → lost p c i ≡ loses p s i
   unfolding lost loses
@@ -101,8 +101,8 @@ pub any-order-of : (p : Image) (s : State) → Fits p → Sized s → AnyOrder p
 any-order-of p s ok z order h = settle-step p s ok z (walk p s order (carryNothing s)) (walked p s (ok .nodes) order h z)
 
 -- ---- an admitted plan
-target-below : (p : Image) → IsAdmitted p → (i : ℕ) → i < nodeCount p → isAssignment p i ≡ true → what p i < varCount p
-unfolding goodNode goodWhat
+target-below : (p : Image) → IsAdmitted p → (i : ℕ) → i < nodeCount p → isWriter p i ≡ true → target p i < varCount p
+unfolding goodNode goodWhat isWriter target
 target-below p a i b t =
     let good = every-at _ 1 (good-node p a i b) in
     let only = some-cons _ _ (every-stop _ _ (not-list p i t)) ∙ some-cons _ _ (every-stop _ _ (not-command p i t)) ∙ some-one _ in

@@ -14,7 +14,7 @@ use Rattle.plexil.specs.Lists.{if_then_else_, every, allBelow}
 use Rattle.plexil.specs.Values.{goodBits, cell, encode}
 use Rattle.plexil.specs.Image.{Image, nodeCount, varCount, lookCount, varKind, lookKind, owner}
 use Rattle.plexil.specs.Places.{varCell, lookCell, knownCell, initial}
-use Rattle.plexil.specs.Records.{goodConstant, goodVariable, isAssignment}
+use Rattle.plexil.specs.Records.{goodConstant, goodVariable, isWriter}
 use Rattle.plexil.specs.Atomic.{moveOf}
 use Rattle.plexil.specs.Micro.{writes, written, wins, entersWaiting, unwritten, writtenBelow, varAfter, step}
 use Rattle.plexil.specs.Form.{goodCell, hasKind, unusedEmpty, goodState}
@@ -57,7 +57,7 @@ unfolding initial goodVariable
 initial-kept p a v b = constant-kept _ _ _ (every-at _ 0 (good-variable p a v b))
 
 -- ---- the variables
-writer-assigns : (p : Image) (s : State) (i : ℕ) → writes p s i ≡ true → isAssignment p i ≡ true
+writer-assigns : (p : Image) (s : State) (i : ℕ) → writes p s i ≡ true → isWriter p i ≡ true
 unfolding writes
 writer-assigns p s i w = every-at _ 0 w
 

@@ -7,9 +7,9 @@ use borrow.Author.Tests.{eqb-true}
 use Rattle.plexil.specs.declared.Worked.the-variants.{Clash}
 use Rattle.plexil.specs.declared.State.{State}
 use Rattle.plexil.specs.declared.Condition.{Condition}
-use Rattle.plexil.specs.Image.{Image, default, nodeCount, exprCount, conditionField, what, valueField, resultKind, varKind}
+use Rattle.plexil.specs.Image.{Image, default, nodeCount, exprCount, conditionField, valueField, resultKind, varKind}
 use Rattle.plexil.specs.Expressions.{valueOf}
-use Rattle.plexil.specs.Records.{isAssignment}
+use Rattle.plexil.specs.Records.{isWriter, target}
 use Rattle.plexil.specs.Scope.{shallow, givenPass, ifAssignment, goodKinds}
 use Rattle.plexil.specs.Atomic.{condition}
 use Rattle.plexil.specs.Kinds.{Has, bool, Reads, itself, ofNot, leftOf, rightOf}
@@ -48,11 +48,12 @@ module _ (p : Image) (a : IsAdmitted p) (i : ℕ) (b : i < nodeCount p) where
   unfolding goodKinds givenPass
   given-bool c e = eqb-true _ _ (some-else _ _ (allConditions-at _ (every-at _ 0 (good-kinds p a i b)) c) e)
 
-  value-there : isAssignment p i ≡ true → valueField p i < exprCount p
+  value-there : isWriter p i ≡ true → valueField p i < exprCount p
+  unfolding isWriter
   value-there = value-below p i (good-node p a i b)
 
-  value-kind : isAssignment p i ≡ true → resultKind p (valueField p i) ≡ varKind p (what p i)
-  unfolding goodKinds ifAssignment
+  value-kind : isWriter p i ≡ true → resultKind p (valueField p i) ≡ varKind p (target p i)
+  unfolding goodKinds ifAssignment isWriter target
   value-kind t = eqb-true _ _ (some-else _ _ (every-at _ 1 (good-kinds p a i b)) (rw t))
 
 -- ---- what the rules read

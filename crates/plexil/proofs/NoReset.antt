@@ -13,9 +13,9 @@ use Rattle.plexil.specs.declared.Move.the-variants.{Stay, Go}
 use Rattle.plexil.specs.declared.Effect.{Effect}
 use Rattle.plexil.specs.declared.Effect.the-variants.{Kept, Cleared, Skipped as Skips, Failed, Judged}
 use Rattle.plexil.specs.Lists.{if_then_else_, every, some}
-use Rattle.plexil.specs.Image.{Image, nodeCount, parent, what, owner}
+use Rattle.plexil.specs.Image.{Image, nodeCount, parent, owner}
 use Rattle.plexil.specs.Places.{statusCode, same, statusAt}
-use Rattle.plexil.specs.Records.{isAssignment}
+use Rattle.plexil.specs.Records.{isAssignment, isWriter, target}
 use Rattle.plexil.specs.Scope.{ifAssignment, isAbove, inScope, goodReach}
 use Rattle.plexil.specs.Atomic.{isClosing, parentStatus, moveOf}
 use Rattle.plexil.specs.Micro.{isJudged, judges, writes, entersWaiting}
@@ -88,8 +88,8 @@ busy-up p s a k (suc n) o (suc i) b r h = by (eqb o (suc i)) refl (busy-up p s a
     by false e up = up (rw (e, isAbove) at r) (busy-parent (statusAt s j) (statusAt s (suc i)) (table-of p s k (suc i) b) h)
 
 -- ---- the promise
-target-in-scope : (p : Image) (s : State) (i : ℕ) → goodReach p i ≡ true → writes p s i ≡ true → inScope p i (what p i) ≡ true
-unfolding goodReach ifAssignment writes
+target-in-scope : (p : Image) (s : State) (i : ℕ) → goodReach p i ≡ true → writes p s i ≡ true → inScope p i (target p i) ≡ true
+unfolding goodReach ifAssignment writes isWriter target
 target-in-scope p s i g w = every-at _ 1 (given (isAssignment p i) _ (every-at _ 1 g) (every-at _ 0 w))
 
 pub not-written-and-reset : FromKept NotWrittenAndReset

@@ -12,7 +12,8 @@ use Rattle.plexil.specs.declared.Effect.{Effect}
 use Rattle.plexil.specs.declared.Move.{Move}
 use Rattle.plexil.specs.declared.Move.the-variants.{Stay, Go}
 use Rattle.plexil.specs.Lists.{if_then_else_}
-use Rattle.plexil.specs.Image.{Image, nodeCount, what, owner}
+use Rattle.plexil.specs.Image.{Image, nodeCount, owner}
+use Rattle.plexil.specs.Records.{target}
 use Rattle.plexil.specs.Places.{outcomeAt, failureAt, markAt, varCell, initial}
 use Rattle.plexil.specs.Atomic.{moveOf}
 use Rattle.plexil.specs.Micro.{judges, writes, loses, placeBy, place, outcomeAfter, failureAfter, entersWaiting, unwritten, varAfter, wins}
@@ -35,11 +36,11 @@ module _ (p : Image) (s : State) where
   lost-loser i b h =
       record {
         writer = record { within = b; target = refl; writing = every-at _ 0 h };
-        notSole = λ sole. not-both _ h (sole-keeps p s (what p i) i sole);
+        notSole = λ sole. not-both _ h (sole-keeps p s (target p i) i sole);
       }
 
   loser-lost : (i : ℕ) → Loser p s i → loses p s i ≡ true
-  loser-lost i l = others-lose p s (what p i) i (l .writer) (l .notSole)
+  loser-lost i l = others-lose p s (target p i) i (l .writer) (l .notSole)
 
   stay-keeps : (i : ℕ) → moveOf p s i ≡ Stay → loses p s i ≡ false
   unfolding loses writes judges

@@ -11,7 +11,8 @@ use Rattle.plexil.specs.declared.State.{State}
 use Rattle.plexil.specs.declared.Place.{Place}
 use Rattle.plexil.specs.Lists.{if_then_else_}
 use Rattle.plexil.specs.Values.{cell}
-use Rattle.plexil.specs.Image.{Image, priority, what}
+use Rattle.plexil.specs.Image.{Image, priority}
+use Rattle.plexil.specs.Records.{target}
 use Rattle.plexil.specs.Micro.{writes, written, place}
 use Rattle.plexil.specs.Order.{Carry, putPlace, meet, visit}
 use Rattle.plexil.proofs.ListLaws.{if-true, if-either}
@@ -176,7 +177,7 @@ meet-there c v t i x u apart =
     (λ q. ap (λ (y : ℕ). record { top = getD (c .top) u 0; node = getD (c .node) u 0; value = bestAt c u .value; tied = y }) (getD-set-other (c .tied) v u 1 0 apart))
     (λ q. refl))
 
-pub visit-meets : (p : Image) (s : State) (c : Carry) (i v : ℕ) → Lengths c → writes p s i ≡ true → what p i ≡ v → v < 128
+pub visit-meets : (p : Image) (s : State) (c : Carry) (i v : ℕ) → Lengths c → writes p s i ≡ true → target p i ≡ v → v < 128
     → bestAt (visit p s c i) v ≡ meetBest (bestAt c v) (priority p i + 1) i (written p s i)
 unfolding visit putPlace
 visit-meets p s c i v z w q b =
@@ -184,9 +185,9 @@ visit-meets p s c i v z w q b =
     ∙ ap (λ (u : ℕ). bestAt (meet (putPlace c i (place p s i) (writes p s i)) u (priority p i + 1) i (written p s i)) v) q
     ∙ meet-here (putPlace c i (place p s i) (writes p s i)) v (priority p i + 1) i (written p s i) (put-lengths c i (place p s i) (writes p s i) z) b
 
-pub visit-leaves : (p : Image) (s : State) (c : Carry) (i v : ℕ) → (writes p s i ≡ true → what p i ≡ v → ⊥) → bestAt (visit p s c i) v ≡ bestAt c v
+pub visit-leaves : (p : Image) (s : State) (c : Carry) (i v : ℕ) → (writes p s i ≡ true → target p i ≡ v → ⊥) → bestAt (visit p s c i) v ≡ bestAt c v
 unfolding visit putPlace
 visit-leaves p s c i v other =
     if-either (λ (d : Carry). bestAt d v ≡ bestAt c v) (writes p s i) _ _
-    (λ w. meet-there (putPlace c i (place p s i) (writes p s i)) (what p i) (priority p i + 1) i (written p s i) v (λ q. other w (sym q)))
+    (λ w. meet-there (putPlace c i (place p s i) (writes p s i)) (target p i) (priority p i + 1) i (written p s i) v (λ q. other w (sym q)))
     (λ w. refl)

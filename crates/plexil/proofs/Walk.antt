@@ -9,7 +9,8 @@ use lib.Dec.{ltb}
 use lib.ListN.{length, replicate, length-replicate, getD-replicate}
 use borrow.Author.Tests.{eq-eqb, ne-eqb, ltb-true, lt-ltb}
 use Rattle.plexil.specs.declared.State.{State}
-use Rattle.plexil.specs.Image.{Image, nodeCount, what}
+use Rattle.plexil.specs.Image.{Image, nodeCount}
+use Rattle.plexil.specs.Records.{target}
 use Rattle.plexil.specs.Micro.{writes, place}
 use Rattle.plexil.specs.Order.{Carry, carryNothing, visit, walk, count, NamesOnce}
 use Rattle.plexil.specs.Promises.{Writer, Sized}
@@ -98,7 +99,7 @@ module _ (p : Image) (s : State) where
 
       visit-met : (c : Carry) → Lengths c → (v : ℕ) → v < 128
           → Met p s v (λ j. count j (i ∷ l) ≡ 0) (bestAt c v) → Met p s v (λ j. count j l ≡ 0) (bestAt (visit p s c i) v)
-      visit-met c z v b m = by (tested (writes p s i)) (same? (what p i) v)
+      visit-met c z v b m = by (tested (writes p s i)) (same? (target p i) v)
         where
           After : Best → Type 0
           After = Met p s v (λ j. count j l ≡ 0)
@@ -108,7 +109,7 @@ module _ (p : Image) (s : State) where
               let same = visit-leaves p s c i v (λ w q. idle (record { within = below; target = q; writing = w })) in
               subst After (sym same) (met-skip p s v _ _ i grows (bestAt c v) idle m)
 
-          by : (writes p s i ≡ true) ⊎ (writes p s i ≡ false) → (what p i ≡ v) ⊎ (what p i ≡ v → ⊥) → After (bestAt (visit p s c i) v)
+          by : (writes p s i ≡ true) ⊎ (writes p s i ≡ false) → (target p i ≡ v) ⊎ (target p i ≡ v → ⊥) → After (bestAt (visit p s c i) v)
           by (inl w) (inl q) =
               let writer : Writer p s v i = record { within = below; target = q; writing = w } in
               subst After (sym (visit-meets p s c i v z w q b)) (met-more p s v _ _ i grows writer (bestAt c v) m)

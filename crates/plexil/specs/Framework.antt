@@ -18,8 +18,9 @@ use Rattle.plexil.specs.declared.Effect.{Effect}
 use Rattle.plexil.specs.declared.Move.the-variants.{Go}
 use Rattle.plexil.specs.declared.Tested.the-variants.{Accepted}
 use Rattle.plexil.specs.Values.{cell}
-use Rattle.plexil.specs.Image.{Image, nodeCount, varCount, what, owner}
+use Rattle.plexil.specs.Image.{Image, nodeCount, varCount, owner}
 use Rattle.plexil.specs.Places.{stateOf, initial, Failure, WriteLost, Quiet}
+use Rattle.plexil.specs.Records.{target}
 use Rattle.plexil.specs.Atomic.{moveOf}
 use Rattle.plexil.specs.Micro.{placeBy, written, entersWaiting}
 use Rattle.plexil.specs.Macro.{eventAnswer, entryCount, entered, cardAfter}
@@ -66,8 +67,8 @@ pub record Atomic (p : Image) (Γ : Environment) (π : Program) (i : ℕ) (q : P
 -- "If two different processes in π, say A and B, write to the same variable, only the update of the process of higher priority is
 -- considered, .. and none otherwise"; a writer that is not considered has lost its write
 pub record Loser (p : Image) (s : State) (i : ℕ) : Type 0 where
-  pub writer : Writer p s (what p i) i
-  pub notSole : Sole p s (what p i) i → ⊥
+  pub writer : Writer p s (target p i) i
+  pub notSole : Sole p s (target p i) i → ⊥
 
 abbrev pub lost : Place → Place
 lost q = record { status = q .status; outcome = Failure; failure = WriteLost; mark = q .mark }

@@ -16,10 +16,10 @@ use Rattle.plexil.specs.declared.Effect.{Effect}
 use Rattle.plexil.specs.declared.Effect.the-variants.{Kept, Cleared, Skipped as Skips, Failed, Judged}
 use Rattle.plexil.specs.Lists.{if_then_else_, every, some, allBelow, anyBelow, renew}
 use Rattle.plexil.specs.Values.{encode}
-use Rattle.plexil.specs.Image.{Image, nodeCount, varCount, priority, what, valueField, owner}
+use Rattle.plexil.specs.Image.{Image, nodeCount, varCount, priority, valueField, owner}
 use Rattle.plexil.specs.Places.{statusCode, same, outcomeAt, failureAt, markAt, varCell, initial, None, Success, Failure, Skipped, none, ByPost, WriteLost}
 use Rattle.plexil.specs.Expressions.{valueOf}
-use Rattle.plexil.specs.Records.{isCommand, isAssignment}
+use Rattle.plexil.specs.Records.{isCommand, isWriter, target}
 use Rattle.plexil.specs.Atomic.{holds, moveOf}
 
 -- "Reaching IterationEnded through End or Finishing"
@@ -37,7 +37,7 @@ judges (Go a e) = isJudged e
 
 -- "an assignment writes and goes to IterationEnded"
 unfoldable pub writes : Image → State → ℕ → Bool
-writes p s i = every (isAssignment p i ∷ judges (moveOf p s i) ∷ [])
+writes p s i = every (isWriter p i ∷ judges (moveOf p s i) ∷ [])
 
 -- what node i writes, whatever Post says: "the write still happens"
 unfoldable pub written : Image → State → ℕ → Cell
@@ -45,7 +45,7 @@ written p s i = encode (valueOf p s (valueField p i))
 
 -- j stands in i's way: another writer of i's variable, of i's priority or more
 unfoldable pub rival : Image → State → ℕ → ℕ → Bool
-rival p s i j = every (not (eqb j i) ∷ eqb (what p j) (what p i) ∷ leb (priority p i) (priority p j) ∷ writes p s j ∷ [])
+rival p s i j = every (not (eqb j i) ∷ eqb (target p j) (target p i) ∷ leb (priority p i) (priority p j) ∷ writes p s j ∷ [])
 
 -- "Several assignments of one variable in a step: the one with strictly greatest priority number writes. A tie for greatest: none writes."
 unfoldable pub loses : Image → State → ℕ → Bool
@@ -53,7 +53,7 @@ loses p s i = every (writes p s i ∷ anyBelow (nodeCount p) (rival p s i) ∷ [
 
 -- node i's value enters variable v
 unfoldable pub wins : Image → State → ℕ → ℕ → Bool
-wins p s v i = every (eqb (what p i) v ∷ writes p s i ∷ not (loses p s i) ∷ [])
+wins p s v i = every (eqb (target p i) v ∷ writes p s i ∷ not (loses p s i) ∷ [])
 
 -- "Post is read before an assignment's write": the state that node i's Post reads is the one before the step
 unfoldable pub readByPost : Image → State → ℕ → State

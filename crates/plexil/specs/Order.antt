@@ -12,8 +12,9 @@ use Rattle.plexil.specs.declared.Place.{Place}
 use Rattle.plexil.specs.declared.Status.the-variants.{Waiting}
 use Rattle.plexil.specs.Lists.{if_then_else_, every, renew}
 use Rattle.plexil.specs.Values.{cell}
-use Rattle.plexil.specs.Image.{Image, nodeCount, varCount, priority, what, owner}
+use Rattle.plexil.specs.Image.{Image, nodeCount, varCount, priority, owner}
 use Rattle.plexil.specs.Places.{statusOf, same, statusAt, varCell, initial, Failure, WriteLost}
+use Rattle.plexil.specs.Records.{target}
 use Rattle.plexil.specs.Micro.{writes, written, place}
 
 -- "the next places so far and, for each variable, the greatest priority met, its node and value, and whether it is tied";
@@ -60,7 +61,7 @@ meet c v t i x =
 unfoldable pub visit : Image → State → Carry → ℕ → Carry
 visit p s c i =
     let d : Carry = putPlace c i (place p s i) (writes p s i) in
-    if writes p s i then meet d (what p i) (priority p i + 1) i (written p s i) else d
+    if writes p s i then meet d (target p i) (priority p i + 1) i (written p s i) else d
 
 -- the visits of a list, one after the other
 unfoldable pub walk : Image → State → List ℕ → Carry → Carry
@@ -74,7 +75,7 @@ walkTo p s c (suc n) = visit p s (walkTo p s c n) n
 
 -- "After the last visit the writes and the losers are settled from what is carried": node i leads its variable, and is not tied
 unfoldable pub leads : Image → Carry → ℕ → Bool
-leads p c i = every (eqb (getD (c .node) (what p i) 0) i ∷ eqb (getD (c .tied) (what p i) 0) 0 ∷ [])
+leads p c i = every (eqb (getD (c .node) (target p i) 0) i ∷ eqb (getD (c .tied) (target p i) 0) 0 ∷ [])
 
 -- node i wrote and does not lead alone
 unfoldable pub lost : Image → Carry → ℕ → Bool

@@ -11,11 +11,11 @@ use Rattle.plexil.specs.declared.Card.{Card}
 use Rattle.plexil.specs.declared.Condition.{Condition}
 use Rattle.plexil.specs.declared.Verdict.the-variants.{Admitted}
 use Rattle.plexil.specs.declared.Tested.the-variants.{Accepted}
-use Rattle.plexil.specs.Image.{Image, nodeCount, exprCount, varCount, priority, what, valueField, owner, resultKind, varKind}
+use Rattle.plexil.specs.Image.{Image, nodeCount, exprCount, varCount, priority, valueField, owner, resultKind, varKind}
 use Rattle.plexil.specs.Places.{statusAt, outcomeAt, failureAt, varCell, initial, freshState, freshCard, Failure, WriteLost}
 use Rattle.plexil.specs.Expressions.{evalOf, valueOf}
 use Rattle.plexil.specs.Kinds.{Has, Reads}
-use Rattle.plexil.specs.Records.{isAssignment}
+use Rattle.plexil.specs.Records.{isWriter, target}
 use Rattle.plexil.specs.Check.{verdict}
 use Rattle.plexil.specs.CheckPromises.{RefusedExact, AdmittedExact}
 use Rattle.plexil.specs.Atomic.{parentStatus, condition, moveOf}
@@ -106,9 +106,9 @@ EntryHas p s = (e k x : ℕ) → e < exprCount p → Reads p 12 e k x → Has (r
 abbrev pub ConditionHas : Image → State → Type 0
 ConditionHas p s = (i : ℕ) → i < nodeCount p → (c : Condition) → Has 0 (condition p s i c)
 
--- what an assignment writes has its target's kind
+-- what a writer writes has its target's kind
 abbrev pub AssignedHas : Image → State → Type 0
-AssignedHas p s = (i : ℕ) → i < nodeCount p → isAssignment p i ≡ true → Has (varKind p (what p i)) (valueOf p s (valueField p i))
+AssignedHas p s = (i : ℕ) → i < nodeCount p → isWriter p i ≡ true → Has (varKind p (target p i)) (valueOf p s (valueField p i))
 
 -- 3. "each node stands to its parent as 01's table allows"
 abbrev pub ParentTable : Image → State → Type 0
@@ -117,7 +117,7 @@ ParentTable p s = (i : ℕ) → i < nodeCount p → allowed (parentStatus p s i)
 -- node i is a writer of variable v in the step from s
 pub record Writer (p : Image) (s : State) (v i : ℕ) : Type 0 where
   pub within : i < nodeCount p
-  pub target : what p i ≡ v
+  pub target : target p i ≡ v
   pub writing : writes p s i ≡ true
 
 -- 4. "no variable is written and reset in one step"

@@ -37,6 +37,14 @@ isCommand p i = eqb (nodeType p i) 1
 unfoldable pub isAssignment : Image → ℕ → Bool
 isAssignment p i = eqb (nodeType p i) 2
 
+-- a node that may write a variable: "an assignment writes"
+unfoldable pub isWriter : Image → ℕ → Bool
+isWriter p i = isAssignment p i
+
+-- the variable that a writer writes: "what 16 (assignment: variable ..)"
+unfoldable pub target : Image → ℕ → ℕ
+target p i = what p i
+
 -- "5 Tree: parent wrong"; "Node 0 has parent 65535; any other parent is a list with a lower number"
 unfoldable pub goodParent : Image → ℕ → Bool
 goodParent p zero = eqb (parent p zero) default
@@ -134,5 +142,5 @@ goodExpression p e = every (eqb (exprSpare p e) 0 ∷ goodOperator (operatorAt p
 
 -- opens every definition of this file
 unfoldable pub opened : Unit {0}
-unfolding short goodCount goodLayout isList isCommand isAssignment goodParent allConditions goodCondition goodWhat goodNode goodConstant goodVariable goodLookup operand reads asks goodLeaf takes kindOfA isNumber goodBinary goodOperator goodExpression
+unfolding short goodCount goodLayout isList isCommand isAssignment isWriter target goodParent allConditions goodCondition goodWhat goodNode goodConstant goodVariable goodLookup operand reads asks goodLeaf takes kindOfA isNumber goodBinary goodOperator goodExpression
 opened = tt

@@ -12,6 +12,7 @@ use Rattle.plexil.specs.Lists.{if_then_else_, every}
 use Rattle.plexil.specs.Values.{cell}
 use Rattle.plexil.specs.Image.{Image, what, owner}
 use Rattle.plexil.specs.Places.{statusOf, statusCode, same, statusAt, varCell, initial}
+use Rattle.plexil.specs.Records.{target}
 use Rattle.plexil.specs.Order.{Carry, leads, lost, enteredWaiting, settledVar}
 use Rattle.places.proofs.StatusLaws.{same-code}
 
@@ -23,7 +24,7 @@ is-waiting n = same-code n Waiting (omega arith)
 -- ---- the tests over the lists of s and c
 pub leads-by : (p : Image) (c : Carry) (i v : ℕ) (node tied : List ℕ) → v ≡ what p i → c .node ≡ node → c .tied ≡ tied
     → leads p c i ≡ every (eqb (getD node v 0) i ∷ eqb (getD tied v 0) 0 ∷ [])
-unfolding leads
+unfolding leads target
 leads-by p c i v node tied e h g = rw (h, g, ← e)
 
 pub waiting-entered : (s : State) (c : Carry) (i : ℕ) (st st2 : List ℕ) → s .status ≡ st → c .status ≡ st2

@@ -13,7 +13,7 @@ use Rattle.plexil.specs.Lists.{every, allBelow, renew}
 use Rattle.plexil.specs.Values.{encode}
 use Rattle.plexil.specs.Image.{Image, nodeCount, what, priority, valueField}
 use Rattle.plexil.specs.Expressions.{valueOf}
-use Rattle.plexil.specs.Records.{isAssignment}
+use Rattle.plexil.specs.Records.{isWriter, target}
 use Rattle.plexil.specs.Atomic.{moveOf}
 use Rattle.plexil.specs.Micro.{judges, writes, written, placeBy, place, sentBy, sent, stays}
 use Rattle.plexil.specs.Order.{Carry, putPlace, meet, visit, walkTo}
@@ -25,9 +25,9 @@ use Rattle.plexil.proofs.AnyOrder.{fits}
 use Rattle.plexil.proofs.NodeOrder.{walkTo-next}
 
 module _ (p : Image) (s : State) (i : ℕ) {m : Move} (e : m ≡ moveOf p s i) where
-  pub writes-is : {w : Bool} → w ≡ every (isAssignment p i ∷ judges m ∷ []) → w ≡ writes p s i
+  pub writes-is : {w : Bool} → w ≡ every (isWriter p i ∷ judges m ∷ []) → w ≡ writes p s i
   unfolding writes
-  writes-is h = h ∙ ap (λ (x : Move). every (isAssignment p i ∷ judges x ∷ [])) e
+  writes-is h = h ∙ ap (λ (x : Move). every (isWriter p i ∷ judges x ∷ [])) e
 
   pub sent-is : {x : ℕ} → x ≡ sentBy p s i m → x ≡ sent p s i
   unfolding sent
@@ -40,7 +40,7 @@ module _ (p : Image) (s : State) (i : ℕ) {m : Move} (e : m ≡ moveOf p s i) w
   unfolding place
   place-is h = h ∙ ap (placeBy p s i) e
 
-  module _ {r : Place} (f : r ≡ placeBy p s i m) {w : Bool} (g : w ≡ every (isAssignment p i ∷ judges m ∷ [])) (c : Carry) {c₁ : Carry} (h : c₁ ≡ putPlace c i r w) where
+  module _ {r : Place} (f : r ≡ placeBy p s i m) {w : Bool} (g : w ≡ every (isWriter p i ∷ judges m ∷ [])) (c : Carry) {c₁ : Carry} (h : c₁ ≡ putPlace c i r w) where
     -- node i's place put, and whether it wrote
     abbrev put : Carry
     put = putPlace c i (place p s i) (writes p s i)
@@ -48,8 +48,9 @@ module _ (p : Image) (s : State) (i : ℕ) {m : Move} (e : m ≡ moveOf p s i) w
     put-is : c₁ ≡ put
     put-is = h ∙ λ k. putPlace c i (place-is f k) (writes-is g k)
 
+    -- the code reads a writer's target as its `what`
     pub visit-writes : w ≡ true → {v t : ℕ} {x : Cell} {c₂ : Carry} → v ≡ what p i → t ≡ priority p i + 1 → x ≡ written p s i → c₂ ≡ meet c₁ v t i x → c₂ ≡ visit p s c i
-    unfolding visit
+    unfolding visit target
     visit-writes b {v} {t} {x} a d k q =
         q ∙ (ap (λ (y : Carry). meet y v t i x) put-is
         ∙ (ap (λ (y : ℕ). meet put y t i x) a
@@ -60,8 +61,9 @@ module _ (p : Image) (s : State) (i : ℕ) {m : Move} (e : m ≡ moveOf p s i) w
     unfolding visit
     visit-passes b = put-is ∙ sym (if-false _ _ _ (sym (writes-is g) ∙ b))
 
-  -- a writer is an assignment, so its target is a variable
-  pub target-below : IsAdmitted p → i < nodeCount p → {w : Bool} → w ≡ every (isAssignment p i ∷ judges m ∷ []) → w ≡ true → {v : ℕ} → v ≡ what p i → v < 128
+  -- a writer's target is a variable
+  pub target-below : IsAdmitted p → i < nodeCount p → {w : Bool} → w ≡ every (isWriter p i ∷ judges m ∷ []) → w ≡ true → {v : ℕ} → v ≡ what p i → v < 128
+  unfolding target
   target-below a b g t q = rw q (fits p a .targets i b (every-at _ 0 (sym g ∙ t)))
 
 pub written-is : (p : Image) (s : State) (i : ℕ) {e : ℕ} {v : Worked} {x : Cell} → e ≡ valueField p i → v ≡ valueOf p s e → x ≡ encode v → x ≡ written p s i
