@@ -10,7 +10,7 @@ use Rattle.plexil.specs.declared.Place.{Place}
 use Rattle.plexil.specs.declared.Move.the-variants.{Go}
 use Rattle.plexil.specs.declared.Effect.the-variants.{Cleared}
 use Rattle.plexil.specs.Lists.{if_then_else_, every}
-use Rattle.plexil.specs.Places.{same, statusAt, markAt}
+use Rattle.plexil.specs.Places.{Seen, same, statusAt, markAt}
 use Rattle.plexil.proofs.ListLaws.{if-true, if-false, stands}
 use Rattle.plexil.proofs.TestLaws.{eq-yes, eq-no}
 use mathlib.Core.Bool.{Bool, true, false, not}
@@ -23,15 +23,15 @@ use Rattle.plexil.specs.Atomic.{isOff, parentStatus, defaultOf, holds, fails, b
 use Rattle.evaluate.specs.Condition.{conditionOr}
 use Rattle.evaluate.proofs.Laws.{condition-or}
 
-pub holds-is : (p : Image) (s : State) (i : ℕ) (c : Condition) (d : Bool) {b : Bool} → d ≡ defaultOf p s i c → b ≡ says true (conditionOr p s i c d) → holds p s i c ≡ b
+pub holds-is : (p : Image) (s : Seen) (i : ℕ) (c : Condition) (d : Bool) {b : Bool} → d ≡ defaultOf p s i c → b ≡ says true (conditionOr p s i c d) → holds p s i c ≡ b
 unfolding holds
 holds-is p s i c d e h = ap (says true) (condition-or p s i c ∙ ap (conditionOr p s i c) (sym e)) ∙ sym h
 
-pub fails-is : (p : Image) (s : State) (i : ℕ) (c : Condition) (d : Bool) {b : Bool} → d ≡ defaultOf p s i c → b ≡ says false (conditionOr p s i c d) → fails p s i c ≡ b
+pub fails-is : (p : Image) (s : Seen) (i : ℕ) (c : Condition) (d : Bool) {b : Bool} → d ≡ defaultOf p s i c → b ≡ says false (conditionOr p s i c d) → fails p s i c ≡ b
 unfolding fails
 fails-is p s i c d e h = ap (says false) (condition-or p s i c ∙ ap (conditionOr p s i c) (sym e)) ∙ sym h
 
-pub inv-default : (p : Image) (s : State) (i : ℕ) → true ≡ defaultOf p s i Inv
+pub inv-default : (p : Image) (s : Seen) (i : ℕ) → true ≡ defaultOf p s i Inv
 unfolding defaultOf
 inv-default p s i = refl
 

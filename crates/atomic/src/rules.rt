@@ -11,14 +11,13 @@ use plexil::Move;
 use plexil::Status;
 ghost use mathlib.Core.Path.{_≡_};
 ghost use mathlib.Core.Bool.{not};
-ghost use mathlib.Core.List.{List, _∷_, []};
-ghost use Prim.Native.Nat.{ℕ};
+ghost use mathlib.Core.List.{_∷_, []};
 ghost use Rattle.plexil.specs.declared.State.{State};
 ghost use Rattle.plexil.specs.declared.Status.the-variants as status;
 ghost use Rattle.plexil.specs.declared.Condition.the-variants as condition;
 ghost use Rattle.plexil.specs.Lists.{every};
-ghost use Rattle.plexil.specs.Places.{stateOf, same};
-ghost use Rattle.plexil.specs.Atomic.{children, isFinished, isResting, isOff, fromWaiting, failsBy, atEnd, settled, fromEnded, defaultOf, byStatus, moveOf};
+ghost use Rattle.plexil.specs.Places.{Seen, seenOf, stateOf, same};
+ghost use Rattle.plexil.specs.Atomic.{childrenBy, children, isFinished, isResting, isOff, fromWaiting, failsBy, atEnd, settled, fromEnded, defaultOf, byStatus, moveOf};
 
 // "Skip True, then Finished, Skipped. Else Start True: Pre True, then Executing ..; otherwise IterationEnded, Failure, Pre"
 fn from_waiting<'a>(
@@ -32,7 +31,7 @@ fn from_waiting<'a>(
     lb: &'a [u64],
     i: u16,
 ) -> Move
-    ensures { λ r. ⌜ ((mk : List ℕ) → r ≡ fromWaiting (now (image .entry)) (stateOf (now (st .entry)) (now (oc .entry)) (now (fl .entry)) mk (now (vt .entry)) (now (vb .entry)) (now (lt .entry)) (now (lb .entry))) i) ⌝ }
+    ensures { λ r. ⌜ r ≡ fromWaiting (now (image .entry)) (seenOf (now (st .entry)) (now (oc .entry)) (now (fl .entry)) (now (vt .entry)) (now (vb .entry)) (now (lt .entry)) (now (lb .entry))) i ⌝ }
 {
     if evaluate::holds(image, st, oc, fl, vt, vb, lt, lb, i, Condition::Skip, false) {
         return Move::Go(Status::Finished, Effect::Skipped);
@@ -75,7 +74,7 @@ fn at_end(image: &[u8], mk: &[u8], i: u16) -> Move
 
 // "End True, but for a list all children Finished"
 fn end_default(image: &[u8], i: u16, finished: bool) -> bool
-    ensures { λ r. ⌜ ((s : State) → finished ≡ children (now (image .entry)) s i isFinished → r ≡ defaultOf (now (image .entry)) s i condition.End) ⌝ }
+    ensures { λ r. ⌜ ((s : Seen) → finished ≡ childrenBy (now (image .entry)) (s .status) i isFinished → r ≡ defaultOf (now (image .entry)) s i condition.End) ⌝ }
 {
     if image::node_type(image, i) == 0 {
         return finished;
@@ -182,7 +181,7 @@ fn from_ended<'a>(
     i: u16,
     u: Status,
 ) -> Move
-    ensures { λ r. ⌜ ((mk : List ℕ) → r ≡ fromEnded u (now (image .entry)) (stateOf (now (st .entry)) (now (oc .entry)) (now (fl .entry)) mk (now (vt .entry)) (now (vb .entry)) (now (lt .entry)) (now (lb .entry))) i) ⌝ }
+    ensures { λ r. ⌜ r ≡ fromEnded u (now (image .entry)) (seenOf (now (st .entry)) (now (oc .entry)) (now (fl .entry)) (now (vt .entry)) (now (vb .entry)) (now (lt .entry)) (now (lb .entry))) i ⌝ }
 {
     if is_closing(u) {
         return Move::Go(Status::Finished, Effect::Kept);

@@ -7,11 +7,11 @@ use lib.Dec.{ltb}
 use borrow.Author.Tests.{ltb-true, ltb-false}
 use Rattle.plexil.specs.declared.Worked.{Worked}
 use Rattle.plexil.specs.declared.Worked.the-variants.{Clash}
-use Rattle.plexil.specs.declared.State.{State}
 use Rattle.plexil.specs.declared.Condition.{Condition}
 use Rattle.plexil.specs.Bytes.{le16}
-use Rattle.plexil.specs.Image.{Image, exprsAt, exprAt, operator, operandA, operandB}
-use Rattle.plexil.specs.Expressions.{Binary, leaf, binary, operatorOf, binaryOf}
+use Rattle.plexil.specs.Image.{Image, exprsAt, exprAt, operandA, operandB}
+use Rattle.plexil.specs.Places.{Seen}
+use Rattle.plexil.specs.Expressions.{Binary, binary, operatorOf, binaryOf}
 use Rattle.plexil.specs.Atomic.{condition, defaultOf}
 use Rattle.plexil.proofs.ListLaws.{tested, same?}
 use Rattle.plexil.proofs.OperatorNumbers.{a-leaf, no-operator, NoneOf, past}
@@ -42,11 +42,11 @@ module _ (p : Image) (e : ℕ) {base a : ℕ} (at : base ≡ exprsAt p) where
   is-b h = h ∙ ap (λ (b : ℕ). le16 p (b + 16 * e + 4)) at
 
 -- ---- a number past 5 is no leaf
-pub no-leaf : (p : Image) (at op : ℕ) (s : State) → NoneOf 0 6 op → Clash ≡ leafAnswer p at op s
+pub no-leaf : (p : Image) (at op : ℕ) (s : Seen) → NoneOf 0 6 op → Clash ≡ leafAnswer p at op s
 unfolding leafAnswer
 no-leaf p at op s h = ap (λ (k : ℕ). leafAnswer p at k s) {x = suc (suc (suc (suc (suc (suc (op - 6))))))} {y = op} (omega (arith, past 0 6 op h (omega arith)))
 
 -- ---- a node's condition: `normal` is its default
-pub condition-or : (p : Image) (s : State) (i : ℕ) (c : Condition) → condition p s i c ≡ conditionOr p s i c (defaultOf p s i c)
+pub condition-or : (p : Image) (s : Seen) (i : ℕ) (c : Condition) → condition p s i c ≡ conditionOr p s i c (defaultOf p s i c)
 unfolding condition conditionOr
 condition-or p s i c = refl

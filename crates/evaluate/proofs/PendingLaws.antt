@@ -11,16 +11,16 @@ use lib.Seq.{getD-set-same, getD-set-other}
 use borrow.Author.Tests.{ne-eqb, lt-ltb, le-ltb}
 use Rattle.plexil.specs.declared.Worked.{Worked}
 use Rattle.plexil.specs.declared.Worked.the-variants.{Clash}
-use Rattle.plexil.specs.declared.State.{State}
 use Rattle.plexil.specs.Lists.{if_then_else_}
 use Rattle.plexil.specs.Values.{notOf}
 use Rattle.plexil.specs.Image.{Image}
+use Rattle.plexil.specs.Places.{Seen}
 use Rattle.plexil.specs.Expressions.{operatorOf, evalOf}
 use Rattle.evaluate.specs.Binary.{joinOf}
 use Rattle.evaluate.specs.Pending.{endedOf, resumed, turnsOf, turnsToEnd, pendingTurns, currentTurns}
 
 -- ---- a pending operator ends
-module _ (p : Image) (s : State) (left b : ℕ) (x v : Worked) where
+module _ (p : Image) (s : Seen) (left b : ℕ) (x v : Worked) where
   pub ended-not : endedOf p s left 6 b x v ≡ notOf v
   unfolding endedOf if_then_else_
   ended-not = refl
@@ -43,7 +43,7 @@ alike-set d l n k a h i j = getD-set-other l k i a d (λ (e : i ≡ k). omega ar
 alike-self {ℓ} : {A : Type ℓ} (d : A) (l : List A) (n : ℕ) → Alike d n l l
 alike-self d l n i j = refl
 
-resumed-alike : (p : Image) (s : State) (n : ℕ) (ops ops′ seconds seconds′ : List ℕ) (firsts firsts′ : List Worked) (left : ℕ) (v : Worked)
+resumed-alike : (p : Image) (s : Seen) (n : ℕ) (ops ops′ seconds seconds′ : List ℕ) (firsts firsts′ : List Worked) (left : ℕ) (v : Worked)
     → Alike 0 n ops ops′ → Alike 0 n seconds seconds′ → Alike Clash n firsts firsts′
     → resumed p s n ops seconds firsts left v ≡ resumed p s n ops′ seconds′ firsts′ left v
 unfolding resumed
@@ -60,7 +60,7 @@ turns-alike (suc n) ops o left f =
     rw (f n (omega arith)) (ap (λ (k : ℕ). turnsToEnd (getD o n 0) left + k) (turns-alike n ops o (suc left) (λ i l. f i (omega arith))))
 
 -- ---- the turns of the loop; n operators are pending, their arrays have twelve places
-module _ (p : Image) (s : State) (ops seconds : List ℕ) (firsts : List Worked) where
+module _ (p : Image) (s : Seen) (ops seconds : List ℕ) (firsts : List Worked) where
   -- an operator with its second operand's entry is put on top
   pub pushed : (n left op b : ℕ) (v : Worked) → n < length ops → n < length seconds
       → resumed p s (suc n) (set ops n op) (set seconds n b) firsts left v ≡ resumed p s n ops seconds firsts (suc left) (endedOf p s left op b (getD firsts n Clash) v)

@@ -3,10 +3,8 @@ use super::entries::value_of;
 use plexil::Worked;
 ghost use mathlib.Core.Path.{_≡_};
 ghost use mathlib.Core.Bool.{true, false};
-ghost use mathlib.Core.List.{List};
-ghost use Prim.Native.Nat.{ℕ};
 ghost use Rattle.plexil.specs.Values.{says};
-ghost use Rattle.plexil.specs.Places.{stateOf};
+ghost use Rattle.plexil.specs.Places.{seenOf};
 ghost use Rattle.evaluate.specs.Condition.{conditionOr};
 
 // "expression, or 65535 for default"
@@ -23,7 +21,7 @@ pub fn condition<'a>(
     c: plexil::Condition,
     normal: bool,
 ) -> Worked
-    ensures { λ r. ⌜ ((mark : List ℕ) → r ≡ conditionOr (now (image .entry)) (stateOf (now (status .entry)) (now (outcome .entry)) (now (failure .entry)) mark (now (vartags .entry)) (now (varbits .entry)) (now (looktags .entry)) (now (lookbits .entry))) i c normal) ⌝ }
+    ensures { λ r. ⌜ r ≡ conditionOr (now (image .entry)) (seenOf (now (status .entry)) (now (outcome .entry)) (now (failure .entry)) (now (vartags .entry)) (now (varbits .entry)) (now (looktags .entry)) (now (lookbits .entry))) i c normal ⌝ }
 {
     let e = image::condition_field(image, i, c);
     if e == 65535 {
@@ -55,7 +53,7 @@ pub fn holds<'a>(
     c: plexil::Condition,
     normal: bool,
 ) -> bool
-    ensures { λ r. ⌜ ((mark : List ℕ) → r ≡ says true (conditionOr (now (image .entry)) (stateOf (now (status .entry)) (now (outcome .entry)) (now (failure .entry)) mark (now (vartags .entry)) (now (varbits .entry)) (now (looktags .entry)) (now (lookbits .entry))) i c normal)) ⌝ }
+    ensures { λ r. ⌜ r ≡ says true (conditionOr (now (image .entry)) (seenOf (now (status .entry)) (now (outcome .entry)) (now (failure .entry)) (now (vartags .entry)) (now (varbits .entry)) (now (looktags .entry)) (now (lookbits .entry))) i c normal) ⌝ }
 {
     let v = condition(
         image,
@@ -86,7 +84,7 @@ pub fn fails<'a>(
     c: plexil::Condition,
     normal: bool,
 ) -> bool
-    ensures { λ r. ⌜ ((mark : List ℕ) → r ≡ says false (conditionOr (now (image .entry)) (stateOf (now (status .entry)) (now (outcome .entry)) (now (failure .entry)) mark (now (vartags .entry)) (now (varbits .entry)) (now (looktags .entry)) (now (lookbits .entry))) i c normal)) ⌝ }
+    ensures { λ r. ⌜ r ≡ says false (conditionOr (now (image .entry)) (seenOf (now (status .entry)) (now (outcome .entry)) (now (failure .entry)) (now (vartags .entry)) (now (varbits .entry)) (now (looktags .entry)) (now (lookbits .entry))) i c normal) ⌝ }
 {
     let v = condition(
         image,

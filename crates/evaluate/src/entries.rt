@@ -1,14 +1,13 @@
 // The evaluation of an expression entry without recursion: the operators that wait for an operand stand in arrays of twelve places.
-// The state's arrays are lent one by one, in State's order. An expression reads no mark, so that each contract holds for any.
+// What expressions read is lent array by array, in Seen's order.
 use super::binary::join;
 use super::leaves::cell_value;
 use super::leaves::code_is;
 use super::leaves::constant;
 use plexil::Worked;
 ghost use mathlib.Core.Path.{_≡_};
-ghost use mathlib.Core.List.{List};
-ghost use Prim.Native.Nat.{ℕ, _<_};
-ghost use Rattle.plexil.specs.Places.{stateOf};
+ghost use Prim.Native.Nat.{_<_};
+ghost use Rattle.plexil.specs.Places.{seenOf};
 ghost use Rattle.plexil.specs.Expressions.{valueOf};
 ghost use Rattle.evaluate.specs.Leaves.{leafAnswer};
 
@@ -26,7 +25,7 @@ fn leaf<'a>(
     lb: &'a [u64],
 ) -> Worked
     requires { ⌜ at < 4000000 ⌝ }
-    ensures { λ r. ⌜ ((mark : List ℕ) → r ≡ leafAnswer (now (image .entry)) at op (stateOf (now (st .entry)) (now (oc .entry)) (now (fl .entry)) mark (now (vt .entry)) (now (vb .entry)) (now (lt .entry)) (now (lb .entry)))) ⌝ }
+    ensures { λ r. ⌜ r ≡ leafAnswer (now (image .entry)) at op (seenOf (now (st .entry)) (now (oc .entry)) (now (fl .entry)) (now (vt .entry)) (now (vb .entry)) (now (lt .entry)) (now (lb .entry))) ⌝ }
 {
     let a = image::le16(image, at + 2);
     let b = image::le16(image, at + 4);
@@ -53,7 +52,7 @@ pub fn value_of<'a>(
     lookbits: &'a [u64],
     e: u16,
 ) -> Worked
-    ensures { λ r. ⌜ ((mark : List ℕ) → r ≡ valueOf (now (image .entry)) (stateOf (now (status .entry)) (now (outcome .entry)) (now (failure .entry)) mark (now (vartags .entry)) (now (varbits .entry)) (now (looktags .entry)) (now (lookbits .entry))) e) ⌝ }
+    ensures { λ r. ⌜ r ≡ valueOf (now (image .entry)) (seenOf (now (status .entry)) (now (outcome .entry)) (now (failure .entry)) (now (vartags .entry)) (now (varbits .entry)) (now (looktags .entry)) (now (lookbits .entry))) e ⌝ }
 {
     let base = image::exprs_at(image);
     let mut ops = [0u8; 12];

@@ -10,7 +10,7 @@ use Rattle.plexil.specs.declared.Worked.{Worked}
 use Rattle.plexil.specs.declared.State.{State}
 use Rattle.plexil.specs.Values.{andOf, orOf, ltOf, leOf, addOf, subOf, mulOf}
 use Rattle.plexil.specs.Image.{Image, exprCount, varCount, lookCount, resultKind, operandA, operandB, varKind, lookKind}
-use Rattle.plexil.specs.Places.{varCell, lookCell, valueIn}
+use Rattle.plexil.specs.Places.{seen, varCell, lookCell, valueIn}
 use Rattle.plexil.specs.Expressions.{Leaf, constantOp, variableOp, lookupOp, statusOp, outcomeOp, failureOp, Binary, andOp, orOp, eqOp, ltOp, leOp, addOp, subOp, mulOp, Operator, leaf, notOp, binary, noOperator, operatorAt, leafOf, binaryOf, answerOf, evalOf}
 use Rattle.plexil.specs.Records.{operand, reads, asks, goodLeaf, takes, kindOfA, goodBinary, goodOperator, goodExpression}
 use Rattle.plexil.specs.Scope.{operandsPass, depthWithin}
@@ -87,8 +87,8 @@ module _ (p : Image) (s : State) (t : IsKept p s) where
   unfolding goodState
   lookup-has l b = cell-has _ _ (allBelow-at _ _ (every-at _ 2 t) l b)
 
-  leaf-has : (o : Leaf) (e : ℕ) → goodLeaf o p e ≡ true → Has (resultKind p e) (leafOf o p s e)
-  unfolding goodLeaf leafOf reads asks
+  leaf-has : (o : Leaf) (e : ℕ) → goodLeaf o p e ≡ true → Has (resultKind p e) (leafOf o p (seen s) e)
+  unfolding goodLeaf leafOf reads asks varCell lookCell
   leaf-has constantOp e g = constant-has _ _ _ (every-at _ 1 g)
   leaf-has variableOp e g = rw (eqb-true (resultKind p e) _ (every-at _ 2 g)) (variable-has _ (ltb-true _ _ (every-at _ 0 g)))
   leaf-has lookupOp e g = rw (eqb-true (resultKind p e) _ (every-at _ 2 g)) (lookup-has _ (ltb-true _ _ (every-at _ 0 g)))
@@ -96,7 +96,7 @@ module _ (p : Image) (s : State) (t : IsKept p s) where
   leaf-has outcomeOp e g = rw (eqb-true (resultKind p e) _ (every-at _ 2 g)) bool
   leaf-has failureOp e g = rw (eqb-true (resultKind p e) _ (every-at _ 2 g)) bool
 
-  answer-has : (o : Operator) (e : ℕ) (sub : ℕ → Worked) → goodOperator o p e ≡ true → Each o p e (λ x. Has (resultKind p x) (sub x)) → Has (resultKind p e) (answerOf o p s e sub)
+  answer-has : (o : Operator) (e : ℕ) (sub : ℕ → Worked) → goodOperator o p e ≡ true → Each o p e (λ x. Has (resultKind p x) (sub x)) → Has (resultKind p e) (answerOf o p (seen s) e sub)
   unfolding goodOperator answerOf
   answer-has (leaf o) e sub g h = leaf-has o e g
   answer-has notOp e sub g h = rw (eqb-true (resultKind p e) _ (every-at _ 2 g)) (not-has (operand-has p e _ _ _ (every-at _ 0 g) h))
@@ -132,7 +132,7 @@ module _ (p : Image) (q : IsAdmitted p) where
   unfolding depthWithin
   operands-within d e w = each-within (operatorAt p e) d e (w .there) (good-operator e (w .there)) (w .deep)
 
-  pub eval-has : (s : State) → IsKept p s → (d e : ℕ) → Within p d e → Has (resultKind p e) (evalOf p s d e)
+  pub eval-has : (s : State) → IsKept p s → (d e : ℕ) → Within p d e → Has (resultKind p e) (evalOf p (seen s) d e)
   unfolding evalOf
   eval-has s t zero e w = absurd (no-level p e (w .deep))
   eval-has s t (suc d) e w =

@@ -11,7 +11,7 @@ use Rattle.plexil.specs.declared.Move.the-variants.{Stay, Go}
 use Rattle.plexil.specs.declared.Effect.the-variants.{Kept, Cleared, Skipped as Skips, Failed, Judged}
 use Rattle.plexil.specs.Lists.{if_then_else_}
 use Rattle.plexil.specs.Image.{Image, nodeCount}
-use Rattle.plexil.specs.Places.{statusOf, statusAt, ByPre, ByInvariant, ByParent}
+use Rattle.plexil.specs.Places.{statusOf, statusAt, ByPre, ByInvariant, ByParent, seen}
 use Rattle.plexil.specs.Records.{isList, isAssignment}
 use Rattle.plexil.specs.Atomic.{isOff, isResting, children, parentStatus, fromWaiting, failsBy, failureOr, atEnd, settled, fromEnded, byStatus, moveBy, moveOf}
 use Rattle.plexil.specs.Micro.{place, placeBy, step}
@@ -49,13 +49,13 @@ module _ (p : Image) (s : State) (i : ℕ) where
   unfolding failsBy
   made-failing c u f o b = either (dropsOut o b) (breaksOff o b)
 
-  made-failure : (c u : Status) (m : Move) → Open c → Made p s i c u m → Made p s i c u (failureOr u p s i m)
+  made-failure : (c u : Status) (m : Move) → Open c → Made p s i c u m → Made p s i c u (failureOr u p (seen s) i m)
   unfolding failureOr
   made-failure c u m o h =
       either (λ e. made-failing c u ByParent o (omega arith))
       (λ e. either (λ e. made-failing c u ByInvariant o (omega arith)) (λ e. h))
 
-  made-waiting : (u : Status) → Made p s i Waiting u (fromWaiting p s i)
+  made-waiting : (u : Status) → Made p s i Waiting u (fromWaiting p (seen s) i)
   unfolding fromWaiting
   made-waiting u = either (λ e. skips) (λ e. either (λ e. either (λ e. starts) (λ e. refuses)) (λ e. stays))
 
@@ -63,7 +63,7 @@ module _ (p : Image) (s : State) (i : ℕ) where
   unfolding atEnd
   made-end u = either closes (λ l. either (λ e. either (λ e. stays) (λ e. ends l)) (λ e. ends l))
 
-  made-ended : (u : Status) → Made p s i IterationEnded u (fromEnded u p s i)
+  made-ended : (u : Status) → Made p s i IterationEnded u (fromEnded u p (seen s) i)
   unfolding fromEnded
   made-ended u = either (λ e. finishes) (λ e. either (λ e. either (λ e. repeats) (λ e. finishes)) (λ e. stays))
 

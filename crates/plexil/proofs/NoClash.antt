@@ -8,6 +8,7 @@ use Rattle.plexil.specs.declared.Worked.the-variants.{Clash}
 use Rattle.plexil.specs.declared.State.{State}
 use Rattle.plexil.specs.declared.Condition.{Condition}
 use Rattle.plexil.specs.Image.{Image, default, nodeCount, exprCount, conditionField, valueField, resultKind, varKind}
+use Rattle.plexil.specs.Places.{seen}
 use Rattle.plexil.specs.Expressions.{valueOf}
 use Rattle.plexil.specs.Records.{isWriter, target}
 use Rattle.plexil.specs.Scope.{shallow, givenPass, ifAssignment, goodKinds}
@@ -57,7 +58,7 @@ module _ (p : Image) (a : IsAdmitted p) (i : ℕ) (b : i < nodeCount p) where
   value-kind t = eqb-true _ _ (some-else _ _ (every-at _ 1 (good-kinds p a i b)) (rw t))
 
 -- ---- what the rules read
-value-has : (p : Image) (s : State) → IsAdmitted p → IsKept p s → (e : ℕ) → e < exprCount p → Has (resultKind p e) (valueOf p s e)
+value-has : (p : Image) (s : State) → IsAdmitted p → IsKept p s → (e : ℕ) → e < exprCount p → Has (resultKind p e) (valueOf p (seen s) e)
 unfolding valueOf
 value-has p s a t e b = eval-has p a s t 12 e (shallow-within p a e b)
 

@@ -13,7 +13,7 @@ use Rattle.plexil.specs.Lists.{if_then_else_, every, some}
 use Rattle.plexil.specs.Image.{Image, nodeType, nodeCount, parent}
 use Rattle.plexil.specs.Places.{statusCode, same, statusAt}
 use Rattle.plexil.specs.Records.{isList, isAssignment}
-use Rattle.plexil.specs.Atomic.{isClosing, isOff, isResting, children, parentStatus, settled, byStatus, moveBy, moveOf}
+use Rattle.plexil.specs.Atomic.{isClosing, isOff, isResting, childrenBy, children, parentStatus, settled, byStatus, moveBy, moveOf}
 use Rattle.plexil.specs.Micro.{step}
 use Rattle.plexil.specs.Form.{isIdle, allowed}
 use Rattle.plexil.specs.Promises.{FromKept, ParentTable}
@@ -169,7 +169,7 @@ module _ (p : Image) (s : State) (j : ℕ) (list : isList p j ≡ true) where
 
 -- ---- the table
 child-rests : (p : Image) (s : State) (i : ℕ) → i < nodeCount p → children p s (parent p i) isResting ≡ true → isResting (statusAt s i) ≡ true
-unfolding children
+unfolding childrenBy statusAt
 child-rests p s i b h = given (eqb (parent p i) (parent p i)) _ (allBelow-at (nodeCount p) _ h i b) (eq-eqb (parent p i) (parent p i) refl)
 
 pub parent-table : FromKept (λ p s. ParentTable p (step p s))

@@ -1,15 +1,14 @@
--- "Operators": what an expression entry answers in a state, the remaining depth falling.
+-- "Operators": what an expression entry answers from what it reads, the remaining depth falling.
 use Prim.Native.Nat.{ℕ, zero, suc}
 use mathlib.Core.List.{[], _∷_}
 use lib.ListN.{getD}
 use lib.Dec.{eqb}
 use Rattle.plexil.specs.declared.Worked.{Worked}
 use Rattle.plexil.specs.declared.Worked.the-variants.{Clash, Unknown, Bool as Flag}
-use Rattle.plexil.specs.declared.State.{State}
 use Rattle.plexil.specs.Lists.{if_then_else_}
-use Rattle.plexil.specs.Values.{known, notOf, andOf, orOf, pairOf, eqOf, ltOf, leOf, addOf, subOf, mulOf}
+use Rattle.plexil.specs.Values.{known, cell, notOf, andOf, orOf, pairOf, eqOf, ltOf, leOf, addOf, subOf, mulOf}
 use Rattle.plexil.specs.Image.{Image, operator, resultKind, operandA, operandB, constant}
-use Rattle.plexil.specs.Places.{outcomeAt, failureAt, varCell, lookCell, valueIn}
+use Rattle.plexil.specs.Places.{Seen, valueIn}
 
 -- the operators 0 to 5, which have no operand entry
 pub data Leaf : Type 0 where
@@ -39,13 +38,13 @@ unfoldable pub operatorAt : Image → ℕ → Operator
 operatorAt p e = operatorOf (operator p e)
 
 -- "b = 1 known, b = 0 Unknown with constant 0"; "In 3 to 5, b is a code listed below; they are never Unknown"
-unfoldable pub leafOf : Leaf → Image → State → ℕ → Worked
-leafOf constantOp p s e = if eqb (operandB p e) 1 then known (resultKind p e) (constant p e) else Unknown
-leafOf variableOp p s e = valueIn (varCell s (operandA p e))
-leafOf lookupOp p s e = valueIn (lookCell s (operandA p e))
-leafOf statusOp p s e = Flag (eqb (getD (s .status) (operandA p e) 0) (operandB p e))
-leafOf outcomeOp p s e = Flag (eqb (outcomeAt s (operandA p e)) (operandB p e))
-leafOf failureOp p s e = Flag (eqb (failureAt s (operandA p e)) (operandB p e))
+unfoldable pub leafOf : Leaf → Image → Seen → ℕ → Worked
+leafOf constantOp p r e = if eqb (operandB p e) 1 then known (resultKind p e) (constant p e) else Unknown
+leafOf variableOp p r e = valueIn (cell (getD (r .vartags) (operandA p e) 0) (getD (r .varbits) (operandA p e) 0))
+leafOf lookupOp p r e = valueIn (cell (getD (r .looktags) (operandA p e) 0) (getD (r .lookbits) (operandA p e) 0))
+leafOf statusOp p r e = Flag (eqb (getD (r .status) (operandA p e) 0) (operandB p e))
+leafOf outcomeOp p r e = Flag (eqb (getD (r .outcome) (operandA p e) 0) (operandB p e))
+leafOf failureOp p r e = Flag (eqb (getD (r .failure) (operandA p e) 0) (operandB p e))
 
 -- what an operator answers on the values of its two operands
 unfoldable pub binaryOf : Binary → Worked → Worked → Worked
@@ -59,20 +58,20 @@ binaryOf subOp x y = subOf (pairOf x y)
 binaryOf mulOp x y = mulOf (pairOf x y)
 
 -- `sub` answers for an operand's entry; no operator at all is a Clash
-unfoldable pub answerOf : Operator → Image → State → ℕ → (ℕ → Worked) → Worked
-answerOf (leaf o) p s e sub = leafOf o p s e
-answerOf notOp p s e sub = notOf (sub (operandA p e))
-answerOf (binary o) p s e sub = binaryOf o (sub (operandA p e)) (sub (operandB p e))
-answerOf noOperator p s e sub = Clash
+unfoldable pub answerOf : Operator → Image → Seen → ℕ → (ℕ → Worked) → Worked
+answerOf (leaf o) p r e sub = leafOf o p r e
+answerOf notOp p r e sub = notOf (sub (operandA p e))
+answerOf (binary o) p r e sub = binaryOf o (sub (operandA p e)) (sub (operandB p e))
+answerOf noOperator p r e sub = Clash
 
 -- entry e with d levels left; no level left is a Clash
-unfoldable pub evalOf : Image → State → ℕ → ℕ → Worked
-evalOf p s zero e = Clash
-evalOf p s (suc d) e = answerOf (operatorAt p e) p s e (λ x. evalOf p s d x)
+unfoldable pub evalOf : Image → Seen → ℕ → ℕ → Worked
+evalOf p r zero e = Clash
+evalOf p r (suc d) e = answerOf (operatorAt p e) p r e (λ x. evalOf p r d x)
 
 -- "an expression tree is at most 12 deep"
-unfoldable pub valueOf : Image → State → ℕ → Worked
-valueOf p s e = evalOf p s 12 e
+unfoldable pub valueOf : Image → Seen → ℕ → Worked
+valueOf p r e = evalOf p r 12 e
 
 -- opens every definition of this file
 unfoldable pub opened : Unit {0}

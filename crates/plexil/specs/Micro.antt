@@ -17,7 +17,7 @@ use Rattle.plexil.specs.declared.Effect.the-variants.{Kept, Cleared, Ski
 use Rattle.plexil.specs.Lists.{if_then_else_, every, some, allBelow, anyBelow, renew}
 use Rattle.plexil.specs.Values.{encode}
 use Rattle.plexil.specs.Image.{Image, nodeCount, varCount, priority, valueField, owner}
-use Rattle.plexil.specs.Places.{statusCode, same, outcomeAt, failureAt, markAt, varCell, initial, None, Success, Failure, Skipped, none, ByPost, WriteLost}
+use Rattle.plexil.specs.Places.{statusCode, same, Seen, seen, outcomeAt, failureAt, markAt, varCell, initial, None, Success, Failure, Skipped, none, ByPost, WriteLost}
 use Rattle.plexil.specs.Expressions.{valueOf}
 use Rattle.plexil.specs.Records.{isCommand, isWriter, target}
 use Rattle.plexil.specs.Atomic.{holds, moveOf}
@@ -41,7 +41,7 @@ writes p s i = every (isWriter p i ∷ judges (moveOf p s i) ∷ [])
 
 -- what node i writes, whatever Post says: "the write still happens"
 unfoldable pub written : Image → State → ℕ → Cell
-written p s i = encode (valueOf p s (valueField p i))
+written p s i = encode (valueOf p (seen s) (valueField p i))
 
 -- j stands in i's way: another writer of i's variable, of i's priority or more
 unfoldable pub rival : Image → State → ℕ → ℕ → Bool
@@ -55,9 +55,9 @@ loses p s i = every (writes p s i ∷ anyBelow (nodeCount p) (rival p s i) ∷ [
 unfoldable pub wins : Image → State → ℕ → ℕ → Bool
 wins p s v i = every (eqb (target p i) v ∷ writes p s i ∷ not (loses p s i) ∷ [])
 
--- "Post is read before an assignment's write": the state that node i's Post reads is the one before the step
-unfoldable pub readByPost : Image → State → ℕ → State
-readByPost p s i = s
+-- "Post is read before an assignment's write": what node i's Post reads is of the state before the step
+unfoldable pub readByPost : Image → State → ℕ → Seen
+readByPost p s i = seen s
 
 -- "if Post is True"
 unfoldable pub postHolds : Image → State → ℕ → Bool

@@ -85,6 +85,24 @@ abbrev pub stateOf : List ℕ → List ℕ → List ℕ → List ℕ → List �
 stateOf st oc fl mk vt vb lt lb =
     record { status = st; outcome = oc; failure = fl; mark = mk; vartags = vt; varbits = vb; looktags = lt; lookbits = lb }
 
+-- what expressions read: "variable a; lookup a; status of node a is b; outcome of node a is b; failure of node a is b"
+pub record Seen : Type 0 where
+  pub status : List ℕ
+  pub outcome : List ℕ
+  pub failure : List ℕ
+  pub vartags : List ℕ
+  pub varbits : List ℕ
+  pub looktags : List ℕ
+  pub lookbits : List ℕ
+
+-- what they read, by its arrays
+abbrev pub seenOf : List ℕ → List ℕ → List ℕ → List ℕ → List ℕ → List ℕ → List ℕ → Seen
+seenOf st oc fl vt vb lt lb = record { status = st; outcome = oc; failure = fl; vartags = vt; varbits = vb; looktags = lt; lookbits = lb }
+
+-- what they read of a state
+abbrev pub seen : State → Seen
+seen s = seenOf (s .status) (s .outcome) (s .failure) (s .vartags) (s .varbits) (s .looktags) (s .lookbits)
+
 -- the status of node i
 unfoldable pub statusAt : State → ℕ → Status
 statusAt s i = statusOf (getD (s .status) i 0)

@@ -12,7 +12,7 @@ use Rattle.plexil.specs.declared.Condition.{Condition}
 use Rattle.plexil.specs.declared.Verdict.the-variants.{Admitted}
 use Rattle.plexil.specs.declared.Tested.the-variants.{Accepted}
 use Rattle.plexil.specs.Image.{Image, nodeCount, exprCount, varCount, priority, valueField, owner, resultKind, varKind}
-use Rattle.plexil.specs.Places.{statusAt, outcomeAt, failureAt, varCell, initial, freshState, freshCard, Failure, WriteLost}
+use Rattle.plexil.specs.Places.{seen, statusAt, outcomeAt, failureAt, varCell, initial, freshState, freshCard, Failure, WriteLost}
 use Rattle.plexil.specs.Expressions.{evalOf, valueOf}
 use Rattle.plexil.specs.Kinds.{Has, Reads}
 use Rattle.plexil.specs.Records.{isWriter, target}
@@ -96,19 +96,19 @@ FromKept P = (p : Image) (s : State) → IsAdmitted p → IsKept p s → P p s
 
 -- 2. "no expression meets a value of another kind": nothing that working out an entry reads is a Clash
 abbrev pub NoClash : Image → State → Type 0
-NoClash p s = (e k x : ℕ) → e < exprCount p → Reads p 12 e k x → evalOf p s k x ≢ Clash
+NoClash p s = (e k x : ℕ) → e < exprCount p → Reads p 12 e k x → evalOf p (seen s) k x ≢ Clash
 
 -- each entry read has its own kind, a leaf's cell too
 abbrev pub EntryHas : Image → State → Type 0
-EntryHas p s = (e k x : ℕ) → e < exprCount p → Reads p 12 e k x → Has (resultKind p x) (evalOf p s k x)
+EntryHas p s = (e k x : ℕ) → e < exprCount p → Reads p 12 e k x → Has (resultKind p x) (evalOf p (seen s) k x)
 
 -- a condition is True, False or Unknown
 abbrev pub ConditionHas : Image → State → Type 0
-ConditionHas p s = (i : ℕ) → i < nodeCount p → (c : Condition) → Has 0 (condition p s i c)
+ConditionHas p s = (i : ℕ) → i < nodeCount p → (c : Condition) → Has 0 (condition p (seen s) i c)
 
 -- what a writer writes has its target's kind
 abbrev pub AssignedHas : Image → State → Type 0
-AssignedHas p s = (i : ℕ) → i < nodeCount p → isWriter p i ≡ true → Has (varKind p (target p i)) (valueOf p s (valueField p i))
+AssignedHas p s = (i : ℕ) → i < nodeCount p → isWriter p i ≡ true → Has (varKind p (target p i)) (valueOf p (seen s) (valueField p i))
 
 -- 3. "each node stands to its parent as 01's table allows"
 abbrev pub ParentTable : Image → State → Type 0

@@ -4,7 +4,7 @@ use mathlib.Core.List.{List, [], _∷_}
 use Rattle.plexil.specs.declared.State.{State}
 use Rattle.plexil.specs.Lists.{countFrom}
 use Rattle.plexil.specs.Bytes.{byteAt, le16, le32, le64}
-use Rattle.plexil.specs.Places.{statusCode, statusAt, outcomeAt, failureAt, markAt, varCell, lookCell, knownCell, freshState}
+use Rattle.plexil.specs.Places.{seen, statusCode, statusAt, outcomeAt, failureAt, markAt, varCell, lookCell, knownCell, freshState}
 use Rattle.plexil.specs.Expressions.{valueOf}
 use Rattle.plexil.specs.Assemble.{no, plain, aList, aCommand, expr, const, variable, lookup, plan}
 use Rattle.plexil.specs.Play.{statuses, outcomes, failures, lookTags, lookBits, stateKept}
@@ -25,7 +25,7 @@ unfoldable pub readIn : State
 readIn = stateKept statuses 1 6 (stateKept outcomes 1 3 (stateKept failures 1 5 (stateKept lookTags 0 2 (stateKept lookBits 0 9 (freshState readers)))))
 
 unfoldable pub answer : List ℕ → State → ℕ → List ℕ
-answer p s e = tagOf (valueOf p s e) ∷ bitsOf (valueOf p s e) ∷ []
+answer p s e = tagOf (valueOf p (seen s) e) ∷ bitsOf (valueOf p (seen s) e) ∷ []
 
 unfoldable pub answers : List (List ℕ)
 answers = countFrom 0 (answer readers readIn) 24
@@ -70,7 +70,7 @@ unfoldable pub placesRead : List ℕ
 placesRead =
     statusCode (statusAt nothing 0) ∷ outcomeAt nothing 0 ∷ failureAt nothing 0 ∷ markAt nothing 0 ∷ varCell nothing 0 .tag ∷ varCell nothing 0 .bits ∷ lookCell nothing 0 .tag
     ∷ lookCell nothing 0 .bits ∷ knownCell 2 5 .tag ∷ knownCell 2 5 .bits ∷ knownCell 3 5 .tag ∷ knownCell 3 5 .bits
-    ∷ bitsOf (valueOf (plan (aList no plain ∷ []) (expr 3 0 0 0 0 ∷ []) [] []) nothing 0) ∷ []
+    ∷ bitsOf (valueOf (plan (aList no plain ∷ []) (expr 3 0 0 0 0 ∷ []) [] []) (seen nothing) 0) ∷ []
 
 unfoldable pub placesExpected : List ℕ
 placesExpected = 0 ∷ 0 ∷ 0 ∷ 0 ∷ 0 ∷ 0 ∷ 0 ∷ 0 ∷ 3 ∷ 5 ∷ 0 ∷ 0 ∷ 1 ∷ []

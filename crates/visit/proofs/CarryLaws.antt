@@ -12,6 +12,7 @@ use Rattle.plexil.specs.declared.Worked.{Worked}
 use Rattle.plexil.specs.Lists.{every, allBelow, renew}
 use Rattle.plexil.specs.Values.{encode}
 use Rattle.plexil.specs.Image.{Image, nodeCount, what, priority, valueField}
+use Rattle.plexil.specs.Places.{seen}
 use Rattle.plexil.specs.Expressions.{valueOf}
 use Rattle.plexil.specs.Records.{isWriter, target}
 use Rattle.plexil.specs.Atomic.{moveOf}
@@ -66,9 +67,9 @@ module _ (p : Image) (s : State) (i : ℕ) {m : Move} (e : m ≡ moveOf p s i) w
   unfolding target
   target-below a b g t q = rw q (fits p a .targets i b (every-at _ 0 (sym g ∙ t)))
 
-pub written-is : (p : Image) (s : State) (i : ℕ) {e : ℕ} {v : Worked} {x : Cell} → e ≡ valueField p i → v ≡ valueOf p s e → x ≡ encode v → x ≡ written p s i
+pub written-is : (p : Image) (s : State) (i : ℕ) {e : ℕ} {v : Worked} {x : Cell} → e ≡ valueField p i → v ≡ valueOf p (seen s) e → x ≡ encode v → x ≡ written p s i
 unfolding written
-written-is p s i a b d = d ∙ ap encode (b ∙ ap (valueOf p s) a)
+written-is p s i a b d = d ∙ ap encode (b ∙ ap (valueOf p (seen s)) a)
 
 -- ---- the walk
 pub allBelow-or : (n : ℕ) (f : ℕ → Bool) (a b : Bool) → a ≡ not (allBelow n f) → b ≡ not (f n) → (a || b) ≡ not (allBelow (n + 1) f)

@@ -14,11 +14,11 @@ holds-requires c κs = search needs
 
 returns : tie.Need-returns
 unfolding endingBy postHolds readByPost defaultOf if_then_else_
-returns c mark = rw (holds-is _ _ _ Post _ refl (c .before .holds .ensures mark) ∙ c .if1 .taken)
+returns c mark = rw (holds-is _ _ _ Post _ refl (c .before .holds .ensures) ∙ c .if1 .taken)
 
 returns-2 : tie.Need-returns-2
 unfolding endingBy postHolds readByPost defaultOf if_then_else_
-returns-2 c mark = rw (holds-is _ _ _ Post _ refl (c .before .holds .ensures mark) ∙ c .if1 .left)
+returns-2 c mark = rw (holds-is _ _ _ Post _ refl (c .before .holds .ensures) ∙ c .if1 .left)
 
 pub judged-spec : {M : Type 1} → statement M
 judged-spec = tie.close (tie.spec holds-requires returns returns-2)

@@ -1,10 +1,16 @@
 -- One arm a status.
 use mathlib.Core.Path.{refl, sym, _∙_}
 use Rattle.plexil.specs.Lists.{if_then_else_}
+use Rattle.plexil.specs.declared.State.{State}
+use Rattle.plexil.specs.Places.{stateOf}
 use Rattle.plexil.specs.Atomic.{byStatus}
 use borrow.Author.Needs.{needs}
 use Rattle.atomic.proofs.rules.by_status.Statement.{statement}
 use Rattle.atomic.proofs.rules.by_status.Tie as tie
+
+-- the state whose arrays are lent
+abbrev stateAt : tie.Start → State
+stateAt c = stateOf (c .args .st .now) (c .args .oc .now) (c .args .fl .now) (c .args .mk .now) (c .args .vt .now) (c .args .vb .now) (c .args .lt .now) (c .args .lb .now)
 
 enum-told : tie.Need-enum-told
 enum-told c = search needs
@@ -58,7 +64,7 @@ returns-2 c = rw (c .before .before .enum-told .given .1, sym (c .before .same .
 
 returns-3 : tie.Need-returns-3
 unfolding byStatus if_then_else_
-returns-3 c = rw (c .before .before .before .enum-told2 .given .1, sym (c .before .before .same2 .ensures) ∙ c .before .if2 .taken) (c .from-waiting .ensures (c .before .before .before .before .before .before .before .before .before .before .before .before .before .before .args .mk .now))
+returns-3 c = rw (c .before .before .before .enum-told2 .given .1, sym (c .before .before .same2 .ensures) ∙ c .before .if2 .taken) (c .from-waiting .ensures)
 
 returns-4 : tie.Need-returns-4
 unfolding byStatus if_then_else_
@@ -72,15 +78,15 @@ returns-6 c = rw (c .before .enum-told4 .given .1) (c .from-finishing .ensures)
 
 returns-7 : tie.Need-returns-7
 unfolding byStatus if_then_else_
-returns-7 c = rw (c .before .before .enum-told5 .given .1, sym (c .before .is-settled .ensures _ refl (c .before .before .before .before .before .before .before .before .before .before .before .before .before .pre .1)) ∙ c .if3 .taken)
+returns-7 c = rw (c .before .before .enum-told5 .given .1, sym (c .before .is-settled .ensures (stateAt (c .before .before .before .before .before .before .before .before .before .before .before .before .before)) refl (c .before .before .before .before .before .before .before .before .before .before .before .before .before .pre .1)) ∙ c .if3 .taken)
 
 returns-8 : tie.Need-returns-8
 unfolding byStatus if_then_else_
-returns-8 c = rw (c .before .before .enum-told5 .given .1, sym (c .before .is-settled .ensures _ refl (c .before .before .before .before .before .before .before .before .before .before .before .before .before .pre .1)) ∙ c .if3 .left)
+returns-8 c = rw (c .before .before .enum-told5 .given .1, sym (c .before .is-settled .ensures (stateAt (c .before .before .before .before .before .before .before .before .before .before .before .before .before)) refl (c .before .before .before .before .before .before .before .before .before .before .before .before .before .pre .1)) ∙ c .if3 .left)
 
 returns-9 : tie.Need-returns-9
 unfolding byStatus
-returns-9 c = rw (c .before .enum-told6 .given .1) (c .from-ended .ensures (c .before .before .before .before .before .before .before .before .before .before .before .before .args .mk .now))
+returns-9 c = rw (c .before .enum-told6 .given .1) (c .from-ended .ensures)
 
 returns-10 : tie.Need-returns-10
 unfolding byStatus

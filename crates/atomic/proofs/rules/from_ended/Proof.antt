@@ -13,7 +13,7 @@ is-closing-requires c κs = search needs
 
 returns : tie.Need-returns
 unfolding fromEnded if_then_else_
-returns c = λ mk. rw (sym (c .before .is-closing .ensures) ∙ c .if1 .taken)
+returns c = rw (sym (c .before .is-closing .ensures) ∙ c .if1 .taken)
 
 same-requires : tie.Need-same-requires
 same-requires c κs = search needs
@@ -23,15 +23,15 @@ holds-requires c κs = search needs
 
 returns-2 : tie.Need-returns-2
 unfolding fromEnded if_then_else_ defaultOf
-returns-2 c = λ mk. rw (sym (c .before .before .before .before .before .is-closing .ensures) ∙ c .before .before .before .before .if1 .left, sym (c .before .before .before .same .ensures) ∙ c .before .before .if2 .taken, holds-is _ _ _ Repeat _ refl (c .before .holds .ensures mk) ∙ c .if3 .taken)
+returns-2 c = rw (sym (c .before .before .before .before .before .is-closing .ensures) ∙ c .before .before .before .before .if1 .left, sym (c .before .before .before .same .ensures) ∙ c .before .before .if2 .taken, holds-is _ _ _ Repeat _ refl (c .before .holds .ensures) ∙ c .if3 .taken)
 
 returns-3 : tie.Need-returns-3
 unfolding fromEnded if_then_else_ defaultOf
-returns-3 c = λ mk. rw (sym (c .before .before .before .before .before .is-closing .ensures) ∙ c .before .before .before .before .if1 .left, sym (c .before .before .before .same .ensures) ∙ c .before .before .if2 .taken, holds-is _ _ _ Repeat _ refl (c .before .holds .ensures mk) ∙ c .if3 .left)
+returns-3 c = rw (sym (c .before .before .before .before .before .is-closing .ensures) ∙ c .before .before .before .before .if1 .left, sym (c .before .before .before .same .ensures) ∙ c .before .before .if2 .taken, holds-is _ _ _ Repeat _ refl (c .before .holds .ensures) ∙ c .if3 .left)
 
 returns-4 : tie.Need-returns-4
 unfolding fromEnded if_then_else_
-returns-4 c = λ mk. rw (sym (c .before .before .before .is-closing .ensures) ∙ c .before .before .if1 .left, sym (c .before .same .ensures) ∙ c .if2 .left)
+returns-4 c = rw (sym (c .before .before .before .is-closing .ensures) ∙ c .before .before .if1 .left, sym (c .before .same .ensures) ∙ c .if2 .left)
 
 pub from-ended-spec : {M : Type 1} → statement M
 from-ended-spec =

@@ -26,7 +26,7 @@ fails-by-requires-2 c κs = search needs
 
 returns-2 : tie.Need-returns-2
 unfolding byStatus failureOr if_then_else_
-returns-2 c = rw (sym (c .before .before .before .before .same .ensures) ∙ c .before .before .before .if1 .left, fails-is _ _ _ Inv _ (inv-default _ _ _) (c .before .before .fails .ensures (c .before .before .before .before .before .before .before .before .before .before .before .before .before .before .args .mk .now)) ∙ c .before .if2 .taken) (c .fails-by2 .ensures)
+returns-2 c = rw (sym (c .before .before .before .before .same .ensures) ∙ c .before .before .before .if1 .left, fails-is _ _ _ Inv _ (inv-default _ _ _) (c .before .before .fails .ensures) ∙ c .before .if2 .taken) (c .fails-by2 .ensures)
 
 end-default-requires : tie.Need-end-default-requires
 end-default-requires c κs = search needs
@@ -39,11 +39,11 @@ at-end-requires c κs = search needs
 
 returns-3 : tie.Need-returns-3
 unfolding byStatus failureOr if_then_else_
-returns-3 c = rw (sym (c .before .before .before .before .before .before .before .same .ensures) ∙ c .before .before .before .before .before .before .if1 .left, fails-is _ _ _ Inv _ (inv-default _ _ _) (c .before .before .before .before .before .fails .ensures (c .before .before .before .before .before .before .before .before .before .before .before .before .before .before .before .before .before .args .mk .now)) ∙ c .before .before .before .before .if2 .left, holds-is _ _ _ End _ (c .before .before .before .end-default .ensures _ (c .before .before .before .before .before .before .before .before .before .before .before .before .before .before .before .before .before .pre)) (c .before .before .holds .ensures (c .before .before .before .before .before .before .before .before .before .before .before .before .before .before .before .before .before .args .mk .now)) ∙ c .before .if3 .taken) (c .at-end .ensures _ refl)
+returns-3 c = rw (sym (c .before .before .before .before .before .before .before .same .ensures) ∙ c .before .before .before .before .before .before .if1 .left, fails-is _ _ _ Inv _ (inv-default _ _ _) (c .before .before .before .before .before .fails .ensures) ∙ c .before .before .before .before .if2 .left, holds-is _ _ _ End _ (c .before .before .before .end-default .ensures _ (c .before .before .before .before .before .before .before .before .before .before .before .before .before .before .before .before .before .pre)) (c .before .before .holds .ensures) ∙ c .before .if3 .taken) (c .at-end .ensures _ refl)
 
 returns-4 : tie.Need-returns-4
 unfolding byStatus failureOr if_then_else_
-returns-4 c = rw (sym (c .before .before .before .before .before .before .same .ensures) ∙ c .before .before .before .before .before .if1 .left, fails-is _ _ _ Inv _ (inv-default _ _ _) (c .before .before .before .before .fails .ensures (c .before .before .before .before .before .before .before .before .before .before .before .before .before .before .before .before .args .mk .now)) ∙ c .before .before .before .if2 .left, holds-is _ _ _ End _ (c .before .before .end-default .ensures _ (c .before .before .before .before .before .before .before .before .before .before .before .before .before .before .before .before .pre)) (c .before .holds .ensures (c .before .before .before .before .before .before .before .before .before .before .before .before .before .before .before .before .args .mk .now)) ∙ c .if3 .left)
+returns-4 c = rw (sym (c .before .before .before .before .before .before .same .ensures) ∙ c .before .before .before .before .before .if1 .left, fails-is _ _ _ Inv _ (inv-default _ _ _) (c .before .before .before .before .fails .ensures) ∙ c .before .before .before .if2 .left, holds-is _ _ _ End _ (c .before .before .end-default .ensures _ (c .before .before .before .before .before .before .before .before .before .before .before .before .before .before .before .before .pre)) (c .before .holds .ensures) ∙ c .if3 .left)
 
 pub from-executing-spec : {M : Type 1} → statement M
 from-executing-spec =

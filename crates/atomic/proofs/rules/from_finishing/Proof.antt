@@ -26,15 +26,15 @@ fails-by-requires-2 c κs = search needs
 
 returns-2 : tie.Need-returns-2
 unfolding byStatus failureOr if_then_else_
-returns-2 c = rw (sym (c .before .before .before .before .same .ensures) ∙ c .before .before .before .if1 .left, fails-is _ _ _ Inv _ (inv-default _ _ _) (c .before .before .fails .ensures (c .before .before .before .before .before .before .before .before .before .before .before .before .before .before .args .mk .now)) ∙ c .before .if2 .taken) (c .fails-by2 .ensures)
+returns-2 c = rw (sym (c .before .before .before .before .same .ensures) ∙ c .before .before .before .if1 .left, fails-is _ _ _ Inv _ (inv-default _ _ _) (c .before .before .fails .ensures) ∙ c .before .if2 .taken) (c .fails-by2 .ensures)
 
 returns-3 : tie.Need-returns-3
 unfolding byStatus failureOr if_then_else_
-returns-3 c = rw (sym (c .before .before .before .before .same .ensures) ∙ c .before .before .before .if1 .left, fails-is _ _ _ Inv _ (inv-default _ _ _) (c .before .before .fails .ensures (c .before .before .before .before .before .before .before .before .before .before .before .before .before .before .args .mk .now)) ∙ c .before .if2 .left, sym (c .before .before .before .before .before .before .before .before .before .before .before .before .before .before .pre) ∙ c .if3 .taken)
+returns-3 c = rw (sym (c .before .before .before .before .same .ensures) ∙ c .before .before .before .if1 .left, fails-is _ _ _ Inv _ (inv-default _ _ _) (c .before .before .fails .ensures) ∙ c .before .if2 .left, sym (c .before .before .before .before .before .before .before .before .before .before .before .before .before .before .pre) ∙ c .if3 .taken)
 
 returns-4 : tie.Need-returns-4
 unfolding byStatus failureOr if_then_else_
-returns-4 c = rw (sym (c .before .before .before .before .same .ensures) ∙ c .before .before .before .if1 .left, fails-is _ _ _ Inv _ (inv-default _ _ _) (c .before .before .fails .ensures (c .before .before .before .before .before .before .before .before .before .before .before .before .before .before .args .mk .now)) ∙ c .before .if2 .left, sym (c .before .before .before .before .before .before .before .before .before .before .before .before .before .before .pre) ∙ c .if3 .left)
+returns-4 c = rw (sym (c .before .before .before .before .same .ensures) ∙ c .before .before .before .if1 .left, fails-is _ _ _ Inv _ (inv-default _ _ _) (c .before .before .fails .ensures) ∙ c .before .if2 .left, sym (c .before .before .before .before .before .before .before .before .before .before .before .before .before .before .pre) ∙ c .if3 .left)
 
 pub from-finishing-spec : {M : Type 1} → statement M
 from-finishing-spec =

@@ -13,7 +13,7 @@ holds-requires c κs = search needs
 
 returns : tie.Need-returns
 unfolding fromWaiting if_then_else_ defaultOf
-returns c = λ mk. rw (holds-is _ _ _ Skip _ refl (c .before .holds .ensures mk) ∙ c .if1 .taken)
+returns c = rw (holds-is _ _ _ Skip _ refl (c .before .holds .ensures) ∙ c .if1 .taken)
 
 holds-requires-2 : tie.Need-holds-requires-2
 holds-requires-2 c κs = search needs
@@ -23,15 +23,15 @@ holds-requires-3 c κs = search needs
 
 returns-2 : tie.Need-returns-2
 unfolding fromWaiting if_then_else_ defaultOf
-returns-2 c = λ mk. rw (holds-is _ _ _ Skip _ refl (c .before .before .before .before .before .holds .ensures mk) ∙ c .before .before .before .before .if1 .left, holds-is _ _ _ Start _ refl (c .before .before .before .holds2 .ensures mk) ∙ c .before .before .if2 .taken, holds-is _ _ _ Pre _ refl (c .before .holds3 .ensures mk) ∙ c .if3 .taken)
+returns-2 c = rw (holds-is _ _ _ Skip _ refl (c .before .before .before .before .before .holds .ensures) ∙ c .before .before .before .before .if1 .left, holds-is _ _ _ Start _ refl (c .before .before .before .holds2 .ensures) ∙ c .before .before .if2 .taken, holds-is _ _ _ Pre _ refl (c .before .holds3 .ensures) ∙ c .if3 .taken)
 
 returns-3 : tie.Need-returns-3
 unfolding fromWaiting if_then_else_ defaultOf
-returns-3 c = λ mk. rw (holds-is _ _ _ Skip _ refl (c .before .before .before .before .before .holds .ensures mk) ∙ c .before .before .before .before .if1 .left, holds-is _ _ _ Start _ refl (c .before .before .before .holds2 .ensures mk) ∙ c .before .before .if2 .taken, holds-is _ _ _ Pre _ refl (c .before .holds3 .ensures mk) ∙ c .if3 .left)
+returns-3 c = rw (holds-is _ _ _ Skip _ refl (c .before .before .before .before .before .holds .ensures) ∙ c .before .before .before .before .if1 .left, holds-is _ _ _ Start _ refl (c .before .before .before .holds2 .ensures) ∙ c .before .before .if2 .taken, holds-is _ _ _ Pre _ refl (c .before .holds3 .ensures) ∙ c .if3 .left)
 
 returns-4 : tie.Need-returns-4
 unfolding fromWaiting if_then_else_ defaultOf
-returns-4 c = λ mk. rw (holds-is _ _ _ Skip _ refl (c .before .before .before .holds .ensures mk) ∙ c .before .before .if1 .left, holds-is _ _ _ Start _ refl (c .before .holds2 .ensures mk) ∙ c .if2 .left)
+returns-4 c = rw (holds-is _ _ _ Skip _ refl (c .before .before .before .holds .ensures) ∙ c .before .before .if1 .left, holds-is _ _ _ Start _ refl (c .before .holds2 .ensures) ∙ c .if2 .left)
 
 pub from-waiting-spec : {M : Type 1} → statement M
 from-waiting-spec =

@@ -12,6 +12,6 @@ condition-spec =
     tie.close
     (tie.spec
     (λ _ _. tt)
-    (λ c mark. rw (← c .before .condition-field .ensures) (sym (if-true _ _ _ (eq-eqb _ 65535 (c .if1 .taken)))))
+    (λ c. rw (← c .before .condition-field .ensures) (sym (if-true _ _ _ (eq-eqb _ 65535 (c .if1 .taken)))))
     (λ _ _. tt)
-    (λ c mark. c .value-of .ensures mark ∙ rw (← c .before .before .condition-field .ensures) (sym (if-false _ _ _ (ne-eqb _ 65535 (c .before .if1 .left))))))
+    (λ c. c .value-of .ensures ∙ rw (← c .before .before .condition-field .ensures) (sym (if-false _ _ _ (ne-eqb _ 65535 (c .before .if1 .left))))))

@@ -6,4 +6,4 @@ use Rattle.evaluate.proofs.conditions.fails.Statement.{statement}
 use Rattle.evaluate.proofs.conditions.fails.Tie as tie
 
 pub fails-spec : {M : Type 1} → statement M
-fails-spec = tie.close (tie.spec (λ _ _. tt) (λ _ _. tt) (λ c mark. c .says .ensures ∙ ap (says false) (c .before .condition .ensures mark)))
+fails-spec = tie.close (tie.spec (λ _ _. tt) (λ _ _. tt) (λ c. c .says .ensures ∙ ap (says false) (c .before .condition .ensures)))

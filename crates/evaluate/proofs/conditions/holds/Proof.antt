@@ -6,4 +6,4 @@ use Rattle.evaluate.proofs.conditions.holds.Statement.{statement}
 use Rattle.evaluate.proofs.conditions.holds.Tie as tie
 
 pub holds-spec : {M : Type 1} → statement M
-holds-spec = tie.close (tie.spec (λ _ _. tt) (λ _ _. tt) (λ c mark. c .says .ensures ∙ ap (says true) (c .before .condition .ensures mark)))
+holds-spec = tie.close (tie.spec (λ _ _. tt) (λ _ _. tt) (λ c. c .says .ensures ∙ ap (says true) (c .before .condition .ensures)))

@@ -51,33 +51,33 @@ code-is-requires-3 c κs = search needs
 
 returns : tie.Need-returns
 unfolding leafAnswer
-returns c mark =
+returns c =
     rw
     (c .before .before .before .match .keys1, ← c .before .before .before .before .le162 .ensures, ← c .before .before .byte-at .ensures, ← c .before .le64 .ensures)
     (c .constant .ensures)
 
 returns-2 : tie.Need-returns-2
 unfolding leafAnswer varCell valueIn
-returns-2 c mark = rw (c .before .match .keys2, ← c .before .before .before .le16 .ensures) (c .cell-value .ensures)
+returns-2 c = rw (c .before .match .keys2, ← c .before .before .before .le16 .ensures) (c .cell-value .ensures)
 
 returns-3 : tie.Need-returns-3
 unfolding leafAnswer lookCell valueIn
-returns-3 c mark = rw (c .before .match .keys3, ← c .before .before .before .le16 .ensures) (c .cell-value2 .ensures)
+returns-3 c = rw (c .before .match .keys3, ← c .before .before .before .le16 .ensures) (c .cell-value2 .ensures)
 
 returns-4 : tie.Need-returns-4
 unfolding leafAnswer
-returns-4 c mark = rw (c .before .match .keys4, ← c .before .before .before .le16 .ensures, ← c .before .before .le162 .ensures) (c .code-is .ensures)
+returns-4 c = rw (c .before .match .keys4, ← c .before .before .before .le16 .ensures, ← c .before .before .le162 .ensures) (c .code-is .ensures)
 
 returns-5 : tie.Need-returns-5
 unfolding leafAnswer outcomeAt
-returns-5 c mark = rw (c .before .match .keys5, ← c .before .before .before .le16 .ensures, ← c .before .before .le162 .ensures) (c .code-is2 .ensures)
+returns-5 c = rw (c .before .match .keys5, ← c .before .before .before .le16 .ensures, ← c .before .before .le162 .ensures) (c .code-is2 .ensures)
 
 returns-6 : tie.Need-returns-6
 unfolding leafAnswer failureAt
-returns-6 c mark = rw (c .before .match .keys6, ← c .before .before .before .le16 .ensures, ← c .before .before .le162 .ensures) (c .code-is3 .ensures)
+returns-6 c = rw (c .before .match .keys6, ← c .before .before .before .le16 .ensures, ← c .before .before .le162 .ensures) (c .code-is3 .ensures)
 
 returns-7 : tie.Need-returns-7
-returns-7 c mark = unfold NoneOf in no-leaf _ _ _ _ (c .match .rest)
+returns-7 c = unfold NoneOf in no-leaf _ _ _ _ (c .match .rest)
 
 pub leaf-spec : {M : Type 1} → statement M
 leaf-spec =

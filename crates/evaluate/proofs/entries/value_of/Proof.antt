@@ -4,7 +4,7 @@ use mathlib.Core.Path.{refl}
 use native.Mathlib.Omega.{arith}
 use borrow.Author.Needs.{needs}
 use Rattle.plexil.specs.Lists.{if_then_else_}
-use Rattle.plexil.specs.Places.{stateOf}
+use Rattle.plexil.specs.Places.{seenOf}
 use Rattle.plexil.specs.Expressions.{valueOf}
 use Rattle.image.proofs.Laws.{exprsAt-below}
 use Rattle.evaluate.specs.Pending.{resumed, current, pendingTurns, currentTurns}
@@ -15,7 +15,7 @@ use Rattle.evaluate.proofs.entries.value_of.Tie as tie
 
 abbrev Inv-loop : tie.InvT-loop
 Inv-loop image status outcome failure vartags varbits looktags lookbits e base ops₀ seconds₀ firsts₀ n₀ left₀ down₀ e₀ v₀ ops seconds firsts n left down e' v =
-    (base < 2000000) × (e' < 65536) × Small seconds × Standing image (λ mark. stateOf status outcome failure mark vartags varbits looktags lookbits) e ops seconds firsts n left down e' v
+    (base < 2000000) × (e' < 65536) × Small seconds × Standing image (seenOf status outcome failure vartags varbits looktags lookbits) e ops seconds firsts n left down e' v
 
 abbrev μ-loop : tie.MeasureT-loop
 μ-loop image status outcome failure vartags varbits looktags lookbits e base ops₀ seconds₀ firsts₀ n₀ left₀ down₀ e₀ v₀ ops seconds firsts n left down e' v =
@@ -30,7 +30,7 @@ loop-holds c = (
   omega (arith, c .exprs-at .ensures, exprsAt-below (c .before .before .before .before .before .before .before .before .before .args .image .now) (c .before .before .before .before .before .before .before .before .shared-slice-known .given)),
   omega arith,
   small-none 12,
-  record { operators = refl; entries = refl; values = refl; levels = refl; answers = λ mark. refl },
+  record { operators = refl; entries = refl; values = refl; levels = refl; answers = refl },
 )
 
 cast-at : tie.Need-cast-at Inv-loop μ-loop

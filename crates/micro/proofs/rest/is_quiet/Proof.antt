@@ -1,6 +1,4 @@
 -- Every node stays, as the pass over the children and the rules tell.
-use borrow.Author.Needs.{needs}
-use mathlib.Core.Path.{refl}
 use Rattle.plexil.specs.Micro.{quiet}
 use Rattle.micro.proofs.rest.is_quiet.Statement.{statement}
 use Rattle.micro.proofs.rest.is_quiet.Tie as tie
@@ -9,8 +7,8 @@ all-stay-requires : tie.Need-all-stay-requires
 all-stay-requires c κs = (
   c .before .before .before .before .before .before .before .before .before .before .before .before .before .before .before .pre,
   c .before .before .node-count .ensures,
-  λ i b. c .before .before .before .before .before .test-children .ensures .finished _ refl i b,
-  λ i b. c .before .before .before .before .before .test-children .ensures .resting _ refl i b,
+  λ i b. c .before .before .before .before .before .test-children .ensures .finished i b,
+  λ i b. c .before .before .before .before .before .test-children .ensures .resting i b,
 )
 
 returns : tie.Need-returns
