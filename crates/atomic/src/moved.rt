@@ -94,8 +94,8 @@ fn ending_by<'a>(
             outcome: 3,
             failure: at(fl, i),
         },
-        Effect::Failed(f) => Ending {
-            outcome: 2,
+        Effect::Failed(o, f) => Ending {
+            outcome: o,
             failure: f,
         },
         Effect::Judged => judged(image, st, oc, fl, vt, vb, lt, lb, i),
@@ -191,7 +191,7 @@ fn is_judged(e: Effect) -> bool
         Effect::Kept => false,
         Effect::Cleared => false,
         Effect::Skipped => false,
-        Effect::Failed(_) => false,
+        Effect::Failed(_, _) => false,
         Effect::Judged => true,
     }
 }

@@ -40,19 +40,19 @@ fn from_waiting<'a>(
         if evaluate::holds(image, st, oc, fl, vt, vb, lt, lb, i, Condition::Pre, true) {
             return Move::Go(Status::Executing, Effect::Kept);
         }
-        return Move::Go(Status::IterationEnded, Effect::Failed(1));
+        return Move::Go(Status::IterationEnded, Effect::Failed(2, 1));
     }
     Move::Stay
 }
 
-// "A list or command goes to Failing ..; an assignment goes to IterationEnded without writing"
-fn fails_by(image: &[u8], i: u16, failure: u8) -> Move
-    ensures { λ r. ⌜ r ≡ failsBy (now (image .entry)) i failure ⌝ }
+// "A list or command goes to Failing ..; an assignment goes to IterationEnded without writing", with this outcome and failure
+fn fails_by(image: &[u8], i: u16, outcome: u8, failure: u8) -> Move
+    ensures { λ r. ⌜ r ≡ failsBy (now (image .entry)) i outcome failure ⌝ }
 {
     if image::node_type(image, i) == 2 {
-        return Move::Go(Status::IterationEnded, Effect::Failed(failure));
+        return Move::Go(Status::IterationEnded, Effect::Failed(outcome, failure));
     }
-    Move::Go(Status::Failing, Effect::Failed(failure))
+    Move::Go(Status::Failing, Effect::Failed(outcome, failure))
 }
 
 // "a list goes to Finishing; a returned command goes to IterationEnded; an assignment writes and goes to IterationEnded"
@@ -101,10 +101,10 @@ fn from_executing<'a>(
     ensures { λ r. ⌜ r ≡ byStatus status.Executing u (now (image .entry)) (stateOf (now (st .entry)) (now (oc .entry)) (now (fl .entry)) (now (mk .entry)) (now (vt .entry)) (now (vb .entry)) (now (lt .entry)) (now (lb .entry))) i ⌝ }
 {
     if same(u, Status::Failing) {
-        return fails_by(image, i, 4);
+        return fails_by(image, i, 2, 4);
     }
     if evaluate::fails(image, st, oc, fl, vt, vb, lt, lb, i, Condition::Inv, true) {
-        return fails_by(image, i, 3);
+        return fails_by(image, i, 2, 3);
     }
     if evaluate::holds(
         image,
@@ -143,10 +143,10 @@ fn from_finishing<'a>(
     ensures { λ r. ⌜ r ≡ byStatus status.Finishing u (now (image .entry)) (stateOf (now (st .entry)) (now (oc .entry)) (now (fl .entry)) (now (mk .entry)) (now (vt .entry)) (now (vb .entry)) (now (lt .entry)) (now (lb .entry))) i ⌝ }
 {
     if same(u, Status::Failing) {
-        return fails_by(image, i, 4);
+        return fails_by(image, i, 2, 4);
     }
     if evaluate::fails(image, st, oc, fl, vt, vb, lt, lb, i, Condition::Inv, true) {
-        return fails_by(image, i, 3);
+        return fails_by(image, i, 2, 3);
     }
     if resting {
         return Move::Go(Status::IterationEnded, Effect::Judged);

@@ -16,7 +16,7 @@ use Rattle.plexil.specs.declared.Tested.the-variants.{Refused}
 use Rattle.plexil.specs.Lists.{if_then_else_, Found, at, nowhere}
 use Rattle.plexil.specs.Image.{Image}
 use Rattle.plexil.specs.Places.{stateOf}
-use Rattle.plexil.specs.Macro.{form, index, goodForm, orElse, withLookup, withMark, enter, entered}
+use Rattle.plexil.specs.Macro.{form, index, goodForm, orElse, withLookup, withMark, enter, entered, formOf}
 use Rattle.events.specs.declared.found.Found as code
 use Rattle.events.specs.declared.found.Found.the-variants as answer
 use Rattle.events.specs.Found.{foundOf}
@@ -46,24 +46,25 @@ goes-on b x y e h = h ∙ sym (if-false (not b) x y (ap not e))
 
 -- ---- an entry by its form
 module _ (p : Image) (b : List ℕ) (k : ℕ) where
-  pub no-form : (f : ℕ) → (f ≡ 0 → ⊥) → (f ≡ 1 → ⊥) → (f ≡ 2 → ⊥) → false ≡ goodForm p b k f
-  unfolding goodForm
+  pub no-form : (f : ℕ) → (f ≡ 0 → ⊥) → (f ≡ 1 → ⊥) → (f ≡ 2 → ⊥) → false ≡ goodForm p b k (formOf f)
+  unfolding goodForm formOf
   no-form zero x y z = absurd (x refl)
   no-form (suc zero) x y z = absurd (y refl)
   no-form (suc (suc zero)) x y z = absurd (z refl)
   no-form (suc (suc (suc f))) x y z = refl
 
-  pub enter-mark : (f : ℕ) (s : State) → (f ≡ 0 → ⊥) → (f ≡ 1 → ⊥) → withMark s (index b k) ≡ enter p b k f s
-  unfolding enter
+  pub enter-mark : (f : ℕ) (s : State) → (f ≡ 0 → ⊥) → (f ≡ 1 → ⊥) → withMark s (index b k) ≡ enter p b k (formOf f) s
+  unfolding enter formOf
   enter-mark zero s x y = absurd (x refl)
   enter-mark (suc zero) s x y = absurd (y refl)
-  enter-mark (suc (suc f)) s x y = refl
+  enter-mark (suc (suc zero)) s x y = refl
+  enter-mark (suc (suc (suc f))) s x y = refl
 
   pub entered-none : (s : State) → s ≡ entered p b 0 s
   unfolding entered
   entered-none s = refl
 
-  pub entered-next : (s : State) → enter p b k (form b k) (entered p b k s) ≡ entered p b (k + 1) s
+  pub entered-next : (s : State) → enter p b k (formOf (form b k)) (entered p b k s) ≡ entered p b (k + 1) s
   unfolding entered
   entered-next s = rw add-one
 

@@ -7,7 +7,7 @@ use places::known_cell;
 use plexil::Cell;
 use plexil::State;
 ghost use mathlib.Core.Path.{_≡_};
-ghost use Rattle.plexil.specs.Macro.{entryCount, withLookup, withMark, enter, entered};
+ghost use Rattle.plexil.specs.Macro.{formOf, entryCount, withLookup, withMark, enter, entered};
 
 fn with_lookup(s: State, l: u16, c: Cell) -> State
     ensures { λ r. ⌜ r ≡ withLookup s l c ⌝ }
@@ -36,7 +36,7 @@ fn with_mark(s: State, i: u16) -> State
 
 // Entry k, of form f.
 fn enter(image: &[u8], event: &[u8], k: u16, f: u8, s: State) -> State
-    ensures { λ r. ⌜ r ≡ enter (now (image .entry)) (now (event .entry)) k f s ⌝ }
+    ensures { λ r. ⌜ r ≡ enter (now (image .entry)) (now (event .entry)) k (formOf f) s ⌝ }
 {
     let i = index(event, k);
     match f {

@@ -8,12 +8,12 @@ use super::shape::entry_count;
 ghost use mathlib.Core.Path.{_≡_};
 ghost use mathlib.Core.Bool.{not};
 ghost use Rattle.plexil.specs.Lists.{first};
-ghost use Rattle.plexil.specs.Macro.{entryCount, goodForm, goodEntry};
+ghost use Rattle.plexil.specs.Macro.{entryCount, lookupValue, lookupUnknown, returned, formOf, goodForm, goodEntry};
 ghost use Rattle.events.specs.Found.{foundOf};
 
 // "0 lookup value", "value 64 (as a constant; ..)"
 fn good_value(image: &[u8], event: &[u8], k: u16) -> bool
-    ensures { λ r. ⌜ r ≡ goodForm (now (image .entry)) (now (event .entry)) k 0 ⌝ }
+    ensures { λ r. ⌜ r ≡ goodForm (now (image .entry)) (now (event .entry)) k lookupValue ⌝ }
 {
     let l = index(event, k);
     if l >= image::look_count(image) {
@@ -24,7 +24,7 @@ fn good_value(image: &[u8], event: &[u8], k: u16) -> bool
 
 // "1 lookup Unknown", "0 unless form 0"
 fn good_unknown(image: &[u8], event: &[u8], k: u16) -> bool
-    ensures { λ r. ⌜ r ≡ goodForm (now (image .entry)) (now (event .entry)) k 1 ⌝ }
+    ensures { λ r. ⌜ r ≡ goodForm (now (image .entry)) (now (event .entry)) k lookupUnknown ⌝ }
 {
     if index(event, k) >= image::look_count(image) {
         return false;
@@ -34,7 +34,7 @@ fn good_unknown(image: &[u8], event: &[u8], k: u16) -> bool
 
 // "2 command returned", "0 unless form 0"
 fn good_return(image: &[u8], event: &[u8], k: u16) -> bool
-    ensures { λ r. ⌜ r ≡ goodForm (now (image .entry)) (now (event .entry)) k 2 ⌝ }
+    ensures { λ r. ⌜ r ≡ goodForm (now (image .entry)) (now (event .entry)) k returned ⌝ }
 {
     let i = index(event, k);
     if i >= image::node_count(image) {
@@ -47,7 +47,7 @@ fn good_return(image: &[u8], event: &[u8], k: u16) -> bool
 }
 
 fn good_form(image: &[u8], event: &[u8], k: u16, f: u8) -> bool
-    ensures { λ r. ⌜ r ≡ goodForm (now (image .entry)) (now (event .entry)) k f ⌝ }
+    ensures { λ r. ⌜ r ≡ goodForm (now (image .entry)) (now (event .entry)) k (formOf f) ⌝ }
 {
     match f {
         0 => good_value(image, event, k),

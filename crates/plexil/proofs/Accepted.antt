@@ -14,7 +14,7 @@ use Rattle.plexil.specs.declared.Tested.{Tested}
 use Rattle.plexil.specs.declared.Tested.the-variants.{Accepted, Refused}
 use Rattle.plexil.specs.Lists.{if_then_else_, Found, at, nowhere}
 use Rattle.plexil.specs.Image.{Image}
-use Rattle.plexil.specs.Macro.{entryCount, form, goodForm, goodEntry, notAwaited, orElse, eventAnswer}
+use Rattle.plexil.specs.Macro.{entryCount, form, goodForm, goodEntry, notAwaited, orElse, eventAnswer, formOf}
 use Rattle.plexil.proofs.ListLaws.{every-at, first-nowhere}
 
 pub not-accepted : (a : RunAnswer) → Refused a ≢ Accepted
@@ -33,7 +33,7 @@ past-first r nowhere other h = (refl, h)
 
 -- entry k is good and, where it returns a command, awaited
 pub record Fit (p : Image) (s : State) (b : List ℕ) (k : ℕ) : Type 0 where
-  pub good : goodForm p b k (form b k) ≡ true
+  pub good : goodForm p b k (formOf (form b k)) ≡ true
   pub due : notAwaited s b k ≡ false
 
 pub all-fit : (p : Image) (s : State) (c : Card) (b : List ℕ) → eventAnswer p s c b ≡ Accepted → (k : ℕ) → k < entryCount b → Fit p s b k

@@ -18,7 +18,7 @@ use Rattle.plexil.specs.Places.{statusAt, outcomeAt, failureAt, markAt, 
 use Rattle.plexil.specs.Records.{isCommand}
 use Rattle.plexil.specs.Atomic.{parentStatus}
 use Rattle.plexil.specs.Form.{isAwaiting, goodMark, goodPlace, hasKind, unusedEmpty, goodState}
-use Rattle.plexil.specs.Macro.{entryCount, form, index, entryBits, goodForm, awaited, notAwaited, eventAnswer, withLookup, withMark, enter, entered}
+use Rattle.plexil.specs.Macro.{entryCount, form, index, entryBits, goodForm, awaited, notAwaited, eventAnswer, withLookup, withMark, enter, entered, formOf}
 use Rattle.plexil.specs.Promises.{IsKept, EventKept}
 use Rattle.plexil.proofs.ListLaws.{every-at, every-cons, every-nil, allBelow-all}
 use Rattle.plexil.proofs.TestLaws.{and-second}
@@ -93,8 +93,8 @@ still-awaiting : (s t : State) (i : ℕ) → t .status ≡ s .status → awaited
 unfolding awaited statusAt
 still-awaiting s t i e h = rw e (every-at _ 0 h)
 
-enter-along : (p : Image) (s t : State) (b : List ℕ) (k f : ℕ) → goodForm p b k f ≡ true → every (eqb f 2 ∷ not (awaited s (index b k)) ∷ []) ≡ false → Along p s t → Along p s (enter p b k f t)
-unfolding goodForm enter withLookup withMark
+enter-along : (p : Image) (s t : State) (b : List ℕ) (k f : ℕ) → goodForm p b k (formOf f) ≡ true → every (eqb f 2 ∷ not (awaited s (index b k)) ∷ []) ≡ false → Along p s t → Along p s (enter p b k (formOf f) t)
+unfolding goodForm enter formOf withLookup withMark
 enter-along p s t b k zero g d a = record {
   kept = look-kept p t (a .kept) (index b k) _ (a .even) (ltb-true _ _ (every-at _ 0 g)) (knownCell-kept (lookKind p (index b k)) (entryBits b k) (every-at _ 1 g));
   status = a .status;

@@ -11,7 +11,7 @@ use Rattle.plexil.specs.declared.Move.the-variants.{Stay, Go}
 use Rattle.plexil.specs.declared.Effect.the-variants.{Kept, Cleared, Skipped as Skips, Failed, Judged}
 use Rattle.plexil.specs.Lists.{if_then_else_}
 use Rattle.plexil.specs.Image.{Image, nodeCount}
-use Rattle.plexil.specs.Places.{statusOf, statusAt, ByPre, ByInvariant, ByParent, seen}
+use Rattle.plexil.specs.Places.{statusOf, statusAt, Failure, ByPre, ByInvariant, ByParent, seen}
 use Rattle.plexil.specs.Records.{isList, isAssignment}
 use Rattle.plexil.specs.Atomic.{isOff, isResting, children, parentStatus, fromWaiting, failsBy, failureOr, atEnd, settled, fromEnded, byStatus, moveBy, moveOf}
 use Rattle.plexil.specs.Micro.{place, placeBy, step}
@@ -30,9 +30,9 @@ pub data Made (p : Image) (s : State) (i : ℕ) : Status → Status → Move →
   wakes : {u : Status} → Made p s i Inactive u (Go Waiting Kept)
   skips : {u : Status} → Made p s i Waiting u (Go Finished Skips)
   starts : {u : Status} → Made p s i Waiting u (Go Executing Kept)
-  refuses : {u : Status} → Made p s i Waiting u (Go IterationEnded (Failed ByPre))
-  breaksOff : {c u : Status} {f : ℕ} → Open c → f < 6 → isAssignment p i ≡ false → Made p s i c u (Go Failing (Failed f))
-  dropsOut : {c u : Status} {f : ℕ} → Open c → f < 6 → isAssignment p i ≡ true → Made p s i c u (Go IterationEnded (Failed f))
+  refuses : {u : Status} → Made p s i Waiting u (Go IterationEnded (Failed Failure ByPre))
+  breaksOff : {c u : Status} {f : ℕ} → Open c → f < 6 → isAssignment p i ≡ false → Made p s i c u (Go Failing (Failed Failure f))
+  dropsOut : {c u : Status} {f : ℕ} → Open c → f < 6 → isAssignment p i ≡ true → Made p s i c u (Go IterationEnded (Failed Failure f))
   closes : {u : Status} → isList p i ≡ true → Made p s i Executing u (Go Finishing Kept)
   ends : {u : Status} → isList p i ≡ false → Made p s i Executing u (Go IterationEnded Judged)
   closed : {u : Status} → children p s i isResting ≡ true → Made p s i Finishing u (Go IterationEnded Judged)
@@ -45,7 +45,7 @@ module _ (p : Image) (s : State) (i : ℕ) where
   either : {c u : Status} {x y : Move} {b : Bool} → (b ≡ true → Made p s i c u x) → (b ≡ false → Made p s i c u y) → Made p s i c u (if b then x else y)
   either {c} {u} h g = if-either (Made p s i c u) _ _ _ h g
 
-  made-failing : (c u : Status) (f : ℕ) → Open c → f < 6 → Made p s i c u (failsBy p i f)
+  made-failing : (c u : Status) (f : ℕ) → Open c → f < 6 → Made p s i c u (failsBy p i Failure f)
   unfolding failsBy
   made-failing c u f o b = either (dropsOut o b) (breaksOff o b)
 

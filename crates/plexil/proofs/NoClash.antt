@@ -1,4 +1,4 @@
--- No expression meets a value of another kind: no entry read is a Clash, a condition is a Bool or Unknown, an assignment's value has its target's kind.
+-- No expression meets a value of another kind: no entry met is a Clash, a condition is a Bool or Unknown, an assignment's value has its target's kind.
 use Prim.Native.Nat.{ℕ, _<_}
 use mathlib.Core.Path.{_≡_}
 use mathlib.Core.Bool.{true, false}
@@ -13,29 +13,29 @@ use Rattle.plexil.specs.Expressions.{valueOf}
 use Rattle.plexil.specs.Records.{isWriter, target}
 use Rattle.plexil.specs.Scope.{shallow, givenPass, ifAssignment, goodKinds}
 use Rattle.plexil.specs.Atomic.{condition}
-use Rattle.plexil.specs.Kinds.{Has, bool, Reads, itself, ofNot, leftOf, rightOf}
+use Rattle.plexil.specs.Kinds.{Has, bool, Meets, itself, ofNot, leftOf, rightOf}
 use Rattle.plexil.specs.Promises.{IsAdmitted, IsKept, FromKept, NoClash, EntryHas, ConditionHas, AssignedHas}
 use Rattle.plexil.proofs.ListLaws.{if-either, every-at}
 use Rattle.plexil.proofs.GoodNode.{some-else, allConditions-at, given-below, value-below}
 use Rattle.plexil.proofs.Admitted.{good-node, good-kinds, is-shallow}
 use Rattle.plexil.proofs.EntryKinds.{Within, operands-within, eval-has}
 
--- ---- every entry read
+-- ---- every entry met
 clash-has : {k : ℕ} → Has k Clash → ⊥
 clash-has h = elim h [ ]
 
-reads-within : (p : Image) → IsAdmitted p → {d e k x : ℕ} → Reads p d e k x → Within p d e → Within p k x
-reads-within p a itself w = w
-reads-within p a (ofNot {d = d} {e = e} o r) w = reads-within p a r (rw o at (operands-within p a d e w))
-reads-within p a (leftOf {d = d} {e = e} b o r) w = reads-within p a r ((rw o at (operands-within p a d e w)) .0)
-reads-within p a (rightOf {d = d} {e = e} b o r) w = reads-within p a r ((rw o at (operands-within p a d e w)) .1)
+meets-within : (p : Image) → IsAdmitted p → {d e k x : ℕ} → Meets p d e k x → Within p d e → Within p k x
+meets-within p a itself w = w
+meets-within p a (ofNot {d = d} {e = e} o r) w = meets-within p a r (rw o at (operands-within p a d e w))
+meets-within p a (leftOf {d = d} {e = e} b o r) w = meets-within p a r ((rw o at (operands-within p a d e w)) .0)
+meets-within p a (rightOf {d = d} {e = e} b o r) w = meets-within p a r ((rw o at (operands-within p a d e w)) .1)
 
 shallow-within : (p : Image) → IsAdmitted p → (e : ℕ) → e < exprCount p → Within p 12 e
 unfolding shallow
 shallow-within p a e b = record { there = b; deep = is-shallow p a e b }
 
 pub entry-has : FromKept EntryHas
-entry-has p s a t e k x b r = eval-has p a s t k x (reads-within p a r (shallow-within p a e b))
+entry-has p s a t e k x b r = eval-has p a s t k x (meets-within p a r (shallow-within p a e b))
 
 pub no-clash : FromKept NoClash
 no-clash p s a t e k x b r h = clash-has (rw h at (entry-has p s a t e k x b r))

@@ -45,7 +45,7 @@ module _ (p : Image) (s : State) (i : ℕ) where
   busy-by c u (Go a Kept) d h = absurd (false≢true h)
   busy-by c u (Go a Cleared) d h = absurd (false≢true h)
   busy-by c u (Go a Skips) d h = absurd (false≢true h)
-  busy-by c u (Go a (Failed f)) d h = absurd (false≢true h)
+  busy-by c u (Go a (Failed o f)) d h = absurd (false≢true h)
   busy-by c u (Go a Judged) d h = judged-busy c u a d
 
   waits-unbusy : (c u : Status) (e : Effect) → Made p s i c u (Go Waiting e) → isBusy c ≡ false

@@ -39,19 +39,24 @@ module _ (p : Image) (s : State) (i : ℕ) where
   status-small Stay h = h
   status-small (Go a e) h = code-small a
 
-  outcome-small : (m : Move) → ltb (outcomeAt s i) 4 ≡ true → ltb (placeBy p s i m .outcome) 4 ≡ true
-  unfolding placeBy endingBy
-  outcome-small Stay h = h
-  outcome-small (Go a Kept) h = h
-  outcome-small (Go a Cleared) h = refl
-  outcome-small (Go a Skips) h = refl
-  outcome-small (Go a (Failed f)) h = refl
-  outcome-small (Go a Judged) h = if-either (λ (r : ℕ × ℕ). ltb (r .0) 4 ≡ true) (postHolds p s i) _ _ (λ e. refl) (λ e. refl)
+  result-small : (c u a : Status) (o f : ℕ) → Made p s i c u (Go a (Failed o f)) → o < 4
+  result-small c u a o f refuses = omega arith
+  result-small c u a o f (breaksOff k b t) = omega arith
+  result-small c u a o f (dropsOut k b t) = omega arith
 
-  reason-small : (c u a : Status) (f : ℕ) → Made p s i c u (Go a (Failed f)) → f < 6
-  reason-small c u a f refuses = omega arith
-  reason-small c u a f (breaksOff o b t) = b
-  reason-small c u a f (dropsOut o b t) = b
+  outcome-small : (c u : Status) (m : Move) → Made p s i c u m → ltb (outcomeAt s i) 4 ≡ true → ltb (placeBy p s i m .outcome) 4 ≡ true
+  unfolding placeBy endingBy
+  outcome-small c u Stay d h = h
+  outcome-small c u (Go a Kept) d h = h
+  outcome-small c u (Go a Cleared) d h = refl
+  outcome-small c u (Go a Skips) d h = refl
+  outcome-small c u (Go a (Failed o f)) d h = lt-ltb o 4 (result-small c u a o f d)
+  outcome-small c u (Go a Judged) d h = if-either (λ (r : ℕ × ℕ). ltb (r .0) 4 ≡ true) (postHolds p s i) _ _ (λ e. refl) (λ e. refl)
+
+  reason-small : (c u a : Status) (o f : ℕ) → Made p s i c u (Go a (Failed o f)) → f < 6
+  reason-small c u a o f refuses = omega arith
+  reason-small c u a o f (breaksOff k b t) = b
+  reason-small c u a o f (dropsOut k b t) = b
 
   failure-small : (c u : Status) (m : Move) → Made p s i c u m → ltb (failureAt s i) 6 ≡ true → ltb (placeBy p s i m .failure) 6 ≡ true
   unfolding placeBy endingBy
@@ -59,7 +64,7 @@ module _ (p : Image) (s : State) (i : ℕ) where
   failure-small c u (Go a Kept) d h = h
   failure-small c u (Go a Cleared) d h = refl
   failure-small c u (Go a Skips) d h = h
-  failure-small c u (Go a (Failed f)) d h = lt-ltb f 6 (reason-small c u a f d)
+  failure-small c u (Go a (Failed o f)) d h = lt-ltb f 6 (reason-small c u a o f d)
   failure-small c u (Go a Judged) d h = if-either (λ (r : ℕ × ℕ). ltb (r .1) 6 ≡ true) (postHolds p s i) _ _ (λ e. refl) (λ e. refl)
 
   -- ---- a status of the node's type
@@ -133,7 +138,7 @@ module _ (p : Image) (s : State) (i : ℕ) (good : goodPlace p s i ≡ true) (b 
   unfolding step outcomeAt outcomeAfter place goodPlace
   step-outcome-small =
       rw (renew-at (nodeCount p) (outcomeAfter p s) (s .outcome) i 0 b)
-      (if-either (λ (n : ℕ). ltb n 4 ≡ true) (loses p s i) _ _ (λ e. refl) (λ e. outcome-small p s i (moveOf p s i) (every-at _ 1 good)))
+      (if-either (λ (n : ℕ). ltb n 4 ≡ true) (loses p s i) _ _ (λ e. refl) (λ e. outcome-small p s i _ _ (moveOf p s i) (moved p s i) (every-at _ 1 good)))
 
   step-failure-small : ltb (failureAt (step p s) i) 6 ≡ true
   unfolding step failureAt failureAfter place goodPlace

@@ -8,7 +8,7 @@ use Rattle.plexil.specs.declared.State.{State}
 use Rattle.plexil.specs.Image.{Image, nodeCount, varCount}
 use Rattle.plexil.specs.Places.{freshState}
 use Rattle.plexil.specs.Micro.{step}
-use Rattle.plexil.specs.Macro.{form, withLookup, withMark, enter, entered}
+use Rattle.plexil.specs.Macro.{form, withLookup, withMark, enter, entered, EntryForm, lookupValue, lookupUnknown, returned, noForm, formOf}
 use Rattle.plexil.specs.Promises.{IsAdmitted, Sized}
 use Rattle.plexil.specs.ReplyPromises.{iterate}
 use Rattle.plexil.proofs.RenewLaws.{length-renew}
@@ -72,13 +72,14 @@ mark-sized s i z = record {
   lookbits = z .lookbits;
 }
 
-enter-sized : (p : Image) (b : List ℕ) (k f : ℕ) (s : State) → Sized s → Sized (enter p b k f s)
+enter-sized : (p : Image) (b : List ℕ) (k : ℕ) (f : EntryForm) (s : State) → Sized s → Sized (enter p b k f s)
 unfolding enter
-enter-sized p b k zero s z = lookup-sized s _ _ z
-enter-sized p b k (suc zero) s z = lookup-sized s _ _ z
-enter-sized p b k (suc (suc f)) s z = mark-sized s _ z
+enter-sized p b k lookupValue s z = lookup-sized s _ _ z
+enter-sized p b k lookupUnknown s z = lookup-sized s _ _ z
+enter-sized p b k returned s z = mark-sized s _ z
+enter-sized p b k noForm s z = mark-sized s _ z
 
 pub entered-sized : (p : Image) (b : List ℕ) (n : ℕ) (s : State) → Sized s → Sized (entered p b n s)
 unfolding entered
 entered-sized p b zero s z = z
-entered-sized p b (suc n) s z = enter-sized p b n (form b n) (entered p b n s) (entered-sized p b n s z)
+entered-sized p b (suc n) s z = enter-sized p b n (formOf (form b n)) (entered p b n s) (entered-sized p b n s z)

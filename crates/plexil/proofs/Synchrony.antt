@@ -18,7 +18,7 @@ use Rattle.plexil.specs.Places.{outcomeAt, failureAt, markAt, varCell, i
 use Rattle.plexil.specs.Atomic.{moveOf}
 use Rattle.plexil.specs.Micro.{judges, writes, loses, placeBy, place, outcomeAfter, failureAfter, entersWaiting, unwritten, varAfter, wins}
 use Rattle.plexil.specs.Promises.{Sole}
-use Rattle.plexil.specs.Framework.{Environment, Program, joined, placeAt, cellAt, Atomic, Loser, lost, NodeAfter, MemoryAfter, enters, returns}
+use Rattle.plexil.specs.Framework.{Environment, Program, joined, placeAt, cellAt, Atomic, Loser, asLoser, NodeAfter, MemoryAfter, enters, returns}
 use Rattle.plexil.proofs.ListLaws.{tested, not-both, same?, every-at, every-false, every-stop}
 use Rattle.plexil.proofs.Writers.{sole-keeps, others-lose, wins-sole, sole-wins, varAfter-sole, varAfter-unwritten}
 
@@ -46,7 +46,7 @@ module _ (p : Image) (s : State) where
   unfolding loses writes judges
   stay-keeps i e = every-stop _ _ (every-false _ 1 (ap judges e))
 
-  settled-lost : (i : ℕ) → loses p s i ≡ true → stepped p s i ≡ lost (place p s i)
+  settled-lost : (i : ℕ) → loses p s i ≡ true → stepped p s i ≡ asLoser (place p s i)
   unfolding outcomeAfter failureAfter if_then_else_
   settled-lost i h = rw h
 
@@ -88,7 +88,7 @@ module _ (p : Image) (Γ : Environment) (π : Program) (i : ℕ) (b : i < nodeCo
   pub node-is : (q : Place) → NodeAfter p Γ π i q → q ≡ stepped p s i
   node-is q (NodeAfter.moves a kept) =
       atomic-place q a ∙ sym (settled-kept p s i (⊎-elim (λ h. absurd (kept (lost-loser p s i b h))) (λ h. h) (tested (loses p s i))))
-  node-is q (NodeAfter.loses x a l e) = e ∙ ap lost (atomic-place x a) ∙ sym (settled-lost p s i (loser-lost p s i l))
+  node-is q (NodeAfter.loses x a l e) = e ∙ ap asLoser (atomic-place x a) ∙ sym (settled-lost p s i (loser-lost p s i l))
   node-is q (NodeAfter.stays none e) =
       let stay = no-move (moveOf p s i) refl none in e ∙ sym (stay-place stay) ∙ sym (settled-kept p s i (stay-keeps p s i stay))
 

@@ -22,7 +22,7 @@ use Rattle.plexil.specs.Quiescence.{run}
 use Rattle.plexil.specs.Macro.{eventAnswer, entryCount, entered, cardAfter}
 use Rattle.plexil.specs.Replies.{runTest, andThen, turnTest, RunReply, notRun, hasRun, ranBy, runReply, hasTurned, turnReply}
 use Rattle.plexil.specs.Promises.{IsAdmitted}
-use Rattle.plexil.specs.ReplyPromises.{HasRun, TurnOrder, Takes, TurnIsBoth, BothOfTurn}
+use Rattle.plexil.specs.ReplyPromises.{HasRun, TurnOrder, Accepts, TurnIsBoth, BothOfTurn}
 use Rattle.plexil.proofs.ListLaws.{if-true, if-false}
 use Rattle.plexil.proofs.ReplyLaws.{run-either, turn-either}
 use Rattle.plexil.proofs.Replies.{refused-number, turn-refused-number}
@@ -97,6 +97,6 @@ pub both-of-turn : BothOfTurn
 unfolding notRun hasTurned
 both-of-turn p s c b budget l start z =
     let t = entered p b (entryCount b) s in
-    turn-either p s c b budget l start (λ (r : RunReply). HasRun r → Takes p s c b × HasRun (runReply p t (cardAfter c) budget l start))
+    turn-either p s c b budget l start (λ (r : RunReply). HasRun r → Accepts p s c b × HasRun (runReply p t (cardAfter c) budget l start))
     (λ a why h. let n = turn-refused-number p s c b l start a why in absurd (⊎-elim (n .0) (n .1) h))
     (λ v g m e h. (record { kept = g; accepted = e }, subst HasRun (sym (run-goes p t (cardAfter c) budget l start v (event-passes p s c b v g z e .kept) m)) h))

@@ -17,7 +17,7 @@ use Rattle.plexil.specs.declared.Effect.the-variants.{Kept, Cleared, Ski
 use Rattle.plexil.specs.Lists.{if_then_else_, every, some, allBelow}
 use Rattle.plexil.specs.Values.{says}
 use Rattle.plexil.specs.Image.{Image, default, nodeCount, parent, conditionField}
-use Rattle.plexil.specs.Places.{statusOf, same, statusAt, markAt, Seen, seen, ByPre, ByInvariant, ByParent}
+use Rattle.plexil.specs.Places.{statusOf, same, statusAt, markAt, Seen, seen, Failure, ByPre, ByInvariant, ByParent}
 use Rattle.plexil.specs.Expressions.{valueOf}
 use Rattle.plexil.specs.Records.{isList, isCommand, isAssignment}
 
@@ -75,21 +75,27 @@ fails p r i c = says false (condition p r i c)
 -- "Skip True, then Finished, Skipped. Else Start True: Pre True, then Executing ..; otherwise IterationEnded, Failure, Pre"
 unfoldable pub fromWaiting : Image → Seen → ℕ → Move
 fromWaiting p r i =
-    if holds p r i Skip then Go Finished Skips else if holds p r i Start then (if holds p r i Pre then Go Executing Kept else Go IterationEnded (Failed ByPre)) else Stay
+    if holds p r i Skip then Go Finished Skips
+    else if holds p r i Start then (if holds p r i Pre then Go Executing Kept else Go IterationEnded (Failed Failure ByPre))
+    else Stay
 
--- "A list or command goes to Failing ..; an assignment goes to IterationEnded without writing"
-unfoldable pub failsBy : Image → ℕ → ℕ → Move
-failsBy p i f = if isAssignment p i then Go IterationEnded (Failed f) else Go Failing (Failed f)
+-- "A list or command goes to Failing ..; an assignment goes to IterationEnded without writing", with outcome o and failure f
+unfoldable pub failsBy : Image → ℕ → ℕ → ℕ → Move
+failsBy p i o f = if isAssignment p i then Go IterationEnded (Failed o f) else Go Failing (Failed o f)
 
 -- "parent Failing gives failure Parent; else Inv False gives Invariant; both with outcome Failure"; u is the parent's status
 unfoldable pub failureOr : Status → Image → Seen → ℕ → Move → Move
 failureOr u p r i other =
-    if same u Failing then failsBy p i ByParent else if fails p r i Inv then failsBy p i ByInvariant else other
+    if same u Failing then failsBy p i Failure ByParent
+    else if fails p r i Inv then failsBy p i Failure ByInvariant
+    else other
 
 -- "a list goes to Finishing; a returned command goes to IterationEnded; an assignment writes and goes to IterationEnded"
 unfoldable pub atEnd : Image → State → ℕ → Move
 atEnd p s i =
-    if isList p i then Go Finishing Kept else if isCommand p i then (if eqb (markAt s i) 0 then Stay else Go IterationEnded Judged) else Go IterationEnded Judged
+    if isList p i then Go Finishing Kept
+    else if isCommand p i then (if eqb (markAt s i) 0 then Stay else Go IterationEnded Judged)
+    else Go IterationEnded Judged
 
 -- "list with all children Waiting or Finished, or command returned"
 unfoldable pub settled : Image → State → ℕ → Bool
@@ -98,7 +104,9 @@ settled p s i = if isList p i then children p s i isResting else every (isComman
 -- "parent Finishing or Failing: Finished. Parent Executing: Repeat True gives Waiting, outcome and failure cleared; else Finished"
 unfoldable pub fromEnded : Status → Image → Seen → ℕ → Move
 fromEnded u p r i =
-    if isClosing u then Go Finished Kept else if same u Executing then (if holds p r i Repeat then Go Waiting Cleared else Go Finished Kept) else Stay
+    if isClosing u then Go Finished Kept
+    else if same u Executing then (if holds p r i Repeat then Go Waiting Cleared else Go Finished Kept)
+    else Stay
 
 -- the rules of each status, u being the parent's
 unfoldable pub byStatus : Status → Status → Image → State → ℕ → Move

@@ -70,12 +70,12 @@ pub record Loser (p : Image) (s : State) (i : ℕ) : Type 0 where
   pub writer : Writer p s (target p i) i
   pub notSole : Sole p s (target p i) i → ⊥
 
-abbrev pub lost : Place → Place
-lost q = record { status = q .status; outcome = Failure; failure = WriteLost; mark = q .mark }
+abbrev pub asLoser : Place → Place
+asLoser q = record { status = q .status; outcome = Failure; failure = WriteLost; mark = q .mark }
 
 pub data NodeAfter (p : Image) (Γ : Environment) (π : Program) (i : ℕ) (q : Place) : Type 0 where
   moves : Atomic p Γ π i q → (Loser p (joined Γ π) i → ⊥) → NodeAfter p Γ π i q
-  loses : (a : Place) → Atomic p Γ π i a → Loser p (joined Γ π) i → q ≡ lost a → NodeAfter p Γ π i q
+  loses : (a : Place) → Atomic p Γ π i a → Loser p (joined Γ π) i → q ≡ asLoser a → NodeAfter p Γ π i q
   stays : ((a : Place) → Atomic p Γ π i a → ⊥) → q ≡ placeAt π i → NodeAfter p Γ π i q
 
 -- "A node's variables return to their initial values when it enters Waiting" is 01's

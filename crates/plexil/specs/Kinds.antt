@@ -1,4 +1,4 @@
--- Kinds in statements: which value has a kind, what an entry reads, and that an operator answers Clash exactly where no kind that it takes suits its operands.
+-- Kinds in statements: which value has a kind, which entries an entry meets, and that an operator answers Clash exactly where no kind that it takes suits its operands.
 use Prim.Native.Nat.{ℕ, suc}
 use mathlib.Core.Path.{_≡_}
 use mathlib.Core.Bool.{Bool, true, false, not, _&&_, _||_}
@@ -19,12 +19,12 @@ pub data Has : ℕ → Worked → Type 0 where
   int : {z : ℤ} → inRange z ≡ true → Has 1 (Int z)
   real : {x : Float} → finite x ≡ true → T (fits binary64 x) → Has 2 (Real x)
 
--- working out entry e with d levels left reads entry x with k left
-pub data Reads (p : Image) : ℕ → ℕ → ℕ → ℕ → Type 0 where
-  itself : {d e : ℕ} → Reads p d e d e
-  ofNot : {d e k x : ℕ} → operatorAt p e ≡ notOp → Reads p d (operandA p e) k x → Reads p (suc d) e k x
-  leftOf : {d e k x : ℕ} (o : Binary) → operatorAt p e ≡ binary o → Reads p d (operandA p e) k x → Reads p (suc d) e k x
-  rightOf : {d e k x : ℕ} (o : Binary) → operatorAt p e ≡ binary o → Reads p d (operandB p e) k x → Reads p (suc d) e k x
+-- working out entry e with d levels left meets entry x with k left
+pub data Meets (p : Image) : ℕ → ℕ → ℕ → ℕ → Type 0 where
+  itself : {d e : ℕ} → Meets p d e d e
+  ofNot : {d e k x : ℕ} → operatorAt p e ≡ notOp → Meets p d (operandA p e) k x → Meets p (suc d) e k x
+  leftOf : {d e k x : ℕ} (o : Binary) → operatorAt p e ≡ binary o → Meets p d (operandA p e) k x → Meets p (suc d) e k x
+  rightOf : {d e k x : ℕ} (o : Binary) → operatorAt p e ≡ binary o → Meets p d (operandB p e) k x → Meets p (suc d) e k x
 
 -- ---- "meeting another kind is .. an answer of its own"
 abbrev pub isClash : Worked → Bool

@@ -2,7 +2,7 @@
 use Prim.Native.Nat.{ℕ, zero, suc, _+_, _*_, _%_, _^_}
 use mathlib.Core.Bool.{Bool, false, not, Bool·beq}
 use mathlib.Core.List.{List, [], _∷_}
-use lib.ListN.{length, set}
+use lib.ListN.{length, getD, set}
 use lib.Dec.{eqb, ltb, leb}
 use Rattle.plexil.specs.declared.Cell.{Cell}
 use Rattle.plexil.specs.declared.State.{State}
@@ -39,6 +39,14 @@ entryAt k = 8 + 12 * k
 unfoldable pub form : List ℕ → ℕ → ℕ
 form b k = byteAt b (entryAt k)
 
+-- the forms; a number past 2 is none
+pub data EntryForm : Type 0 where
+  lookupValue lookupUnknown returned noForm : EntryForm
+
+-- "0 lookup value, 1 lookup Unknown, 2 command returned"
+unfoldable pub formOf : ℕ → EntryForm
+formOf f = getD (lookupValue ∷ lookupUnknown ∷ returned ∷ []) f noForm
+
 -- "spare 8"
 unfoldable pub entrySpare : List ℕ → ℕ → ℕ
 entrySpare b k = byteAt b (entryAt k + 1)
@@ -52,15 +60,15 @@ unfoldable pub entryBits : List ℕ → ℕ → ℕ
 entryBits b k = le64 b (entryAt k + 4)
 
 -- "value 64 (as a constant; 0 unless form 0)"; by form
-unfoldable pub goodForm : Image → List ℕ → ℕ → ℕ → Bool
-goodForm p b k zero = every (ltb (index b k) (lookCount p) ∷ goodBits (lookKind p (index b k)) (entryBits b k) ∷ [])
-goodForm p b k (suc zero) = every (ltb (index b k) (lookCount p) ∷ eqb (entryBits b k) 0 ∷ [])
-goodForm p b k (suc (suc zero)) = every (ltb (index b k) (nodeCount p) ∷ isCommand p (index b k) ∷ eqb (entryBits b k) 0 ∷ [])
-goodForm p b k (suc (suc (suc f))) = false
+unfoldable pub goodForm : Image → List ℕ → ℕ → EntryForm → Bool
+goodForm p b k lookupValue = every (ltb (index b k) (lookCount p) ∷ goodBits (lookKind p (index b k)) (entryBits b k) ∷ [])
+goodForm p b k lookupUnknown = every (ltb (index b k) (lookCount p) ∷ eqb (entryBits b k) 0 ∷ [])
+goodForm p b k returned = every (ltb (index b k) (nodeCount p) ∷ isCommand p (index b k) ∷ eqb (entryBits b k) 0 ∷ [])
+goodForm p b k noForm = false
 
 -- "23 Entry: form, spare, index, value or non-command node wrong"
 unfoldable pub goodEntry : Image → List ℕ → ℕ → Bool
-goodEntry p b k = every (eqb (entrySpare b k) 0 ∷ goodForm p b k (form b k) ∷ [])
+goodEntry p b k = every (eqb (entrySpare b k) 0 ∷ goodForm p b k (formOf (form b k)) ∷ [])
 
 -- entry j names the lookup or the node that entry k names
 unfoldable pub namesSame : List ℕ → ℕ → ℕ → Bool
@@ -86,7 +94,10 @@ orElse refusal nowhere other = other
 -- "20 to 25 in order"; "20 Busy: event while Running", "22 Turn: serial not the next"
 unfoldable pub eventAnswer : Image → State → Card → List ℕ → Tested
 eventAnswer p s c b =
-    if not (eqb (c .phase) Quiet) then Refused Busy else if not (goodShape b) then Refused Shape else if not (eqb (eventSerial b) (c .serial)) then Refused Turn else orElse Entry (first (entryCount b) (λ k. not (goodEntry p b k)))
+    if not (eqb (c .phase) Quiet) then Refused Busy
+    else if not (goodShape b) then Refused Shape
+    else if not (eqb (eventSerial b) (c .serial)) then Refused Turn
+    else orElse Entry (first (entryCount b) (λ k. not (goodEntry p b k)))
     (orElse Twice (first (entryCount b) (namedBefore b))
     (orElse NotAwaited (first (entryCount b) (notAwaited s b)) Accepted))
 
@@ -101,16 +112,17 @@ unfoldable pub withMark : State → ℕ → State
 withMark s i =
     stateOf (s .status) (s .outcome) (s .failure) (set (s .mark) i 1) (s .vartags) (s .varbits) (s .looktags) (s .lookbits)
 
--- "An accepted event changes lookups and marks .. no step is done"; by form
-unfoldable pub enter : Image → List ℕ → ℕ → ℕ → State → State
-enter p b k zero s = withLookup s (index b k) (knownCell (lookKind p (index b k)) (entryBits b k))
-enter p b k (suc zero) s = withLookup s (index b k) (cell 0 0)
-enter p b k (suc (suc f)) s = withMark s (index b k)
+-- "An accepted event changes lookups and marks .. no step is done"; by form. An entry of no form is refused (23), and would mark
+unfoldable pub enter : Image → List ℕ → ℕ → EntryForm → State → State
+enter p b k lookupValue s = withLookup s (index b k) (knownCell (lookKind p (index b k)) (entryBits b k))
+enter p b k lookupUnknown s = withLookup s (index b k) (cell 0 0)
+enter p b k returned s = withMark s (index b k)
+enter p b k noForm s = withMark s (index b k)
 
 -- the first n entries, entered
 unfoldable pub entered : Image → List ℕ → ℕ → State → State
 entered p b zero s = s
-entered p b (suc n) s = enter p b n (form b n) (entered p b n s)
+entered p b (suc n) s = enter p b n (formOf (form b n)) (entered p b n s)
 
 -- "After serial 4294967295 the next serial is 0"
 unfoldable pub nextSerial : ℕ → ℕ
@@ -122,5 +134,5 @@ cardAfter c = record { serial = nextSerial (c .serial); phase = Running }
 
 -- opens every definition of this file
 unfoldable pub opened : Unit {0}
-unfolding eventSerial entryCount goodShape entryAt form entrySpare index entryBits goodForm goodEntry namesSame namedBefore awaited notAwaited orElse eventAnswer withLookup withMark enter entered nextSerial cardAfter
+unfolding eventSerial entryCount goodShape entryAt form formOf entrySpare index entryBits goodForm goodEntry namesSame namedBefore awaited notAwaited orElse eventAnswer withLookup withMark enter entered nextSerial cardAfter
 opened = tt

@@ -27,7 +27,7 @@ unfoldable pub isJudged : Effect → Bool
 isJudged Kept = false
 isJudged Cleared = false
 isJudged Skips = false
-isJudged (Failed f) = false
+isJudged (Failed o f) = false
 isJudged Judged = true
 
 -- a move with that effect
@@ -68,7 +68,7 @@ unfoldable pub endingBy : Image → State → ℕ → Effect → ℕ × ℕ
 endingBy p s i Kept = (outcomeAt s i, failureAt s i)
 endingBy p s i Cleared = (None, none)
 endingBy p s i Skips = (Skipped, failureAt s i)
-endingBy p s i (Failed f) = (Failure, f)
+endingBy p s i (Failed o f) = (o, f)
 endingBy p s i Judged = if postHolds p s i then (Success, none) else (Failure, ByPost)
 
 -- "The mark clears on leaving for IterationEnded"; "Executing (a command issues its word, mark clear)"

@@ -14,7 +14,7 @@ use Rattle.plexil.specs.declared.Tested.the-variants.{Accepted}
 use Rattle.plexil.specs.Image.{Image, nodeCount, exprCount, varCount, priority, valueField, owner, resultKind, varKind}
 use Rattle.plexil.specs.Places.{seen, statusAt, outcomeAt, failureAt, varCell, initial, freshState, freshCard, Failure, WriteLost}
 use Rattle.plexil.specs.Expressions.{evalOf, valueOf}
-use Rattle.plexil.specs.Kinds.{Has, Reads}
+use Rattle.plexil.specs.Kinds.{Has, Meets}
 use Rattle.plexil.specs.Records.{isWriter, target}
 use Rattle.plexil.specs.Check.{verdict}
 use Rattle.plexil.specs.CheckPromises.{RefusedExact, AdmittedExact}
@@ -94,13 +94,13 @@ EventKept =
 abbrev pub FromKept : (Image → State → Type 0) → Type 0
 FromKept P = (p : Image) (s : State) → IsAdmitted p → IsKept p s → P p s
 
--- 2. "no expression meets a value of another kind": nothing that working out an entry reads is a Clash
+-- 2. "no expression meets a value of another kind": nothing that working out an entry meets is a Clash
 abbrev pub NoClash : Image → State → Type 0
-NoClash p s = (e k x : ℕ) → e < exprCount p → Reads p 12 e k x → evalOf p (seen s) k x ≢ Clash
+NoClash p s = (e k x : ℕ) → e < exprCount p → Meets p 12 e k x → evalOf p (seen s) k x ≢ Clash
 
--- each entry read has its own kind, a leaf's cell too
+-- each entry met has its own kind, a leaf's cell too
 abbrev pub EntryHas : Image → State → Type 0
-EntryHas p s = (e k x : ℕ) → e < exprCount p → Reads p 12 e k x → Has (resultKind p x) (evalOf p (seen s) k x)
+EntryHas p s = (e k x : ℕ) → e < exprCount p → Meets p 12 e k x → Has (resultKind p x) (evalOf p (seen s) k x)
 
 -- a condition is True, False or Unknown
 abbrev pub ConditionHas : Image → State → Type 0

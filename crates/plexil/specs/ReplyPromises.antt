@@ -153,14 +153,14 @@ TurnCourse =
     → Course p (entered p event (entryCount event) s) (cardAfter c) budget list start (turnReply p s c event budget list start)
 
 -- ---- "It answers as the two would in that order". The taking of the event is not refused
-pub record Takes (p : Image) (s : State) (c : Card) (event : List ℕ) : Type 0 where
+pub record Accepts (p : Image) (s : State) (c : Card) (event : List ℕ) : Type 0 where
   pub kept : goodKept p s c ≡ true
   pub accepted : eventAnswer p s c event ≡ test.Accepted
 
 -- where neither is refused, the run but by 32, the turn is the taking followed by the run
 abbrev pub TurnIsBoth : Type 0
 TurnIsBoth =
-    (p : Image) (s : State) (c : Card) (event : List ℕ) (budget : ℕ) (list : List ℕ) (start : ℕ) → Takes p s c event
+    (p : Image) (s : State) (c : Card) (event : List ℕ) (budget : ℕ) (list : List ℕ) (start : ℕ) → Accepts p s c event
     → HasRun (runReply p (entered p event (entryCount event) s) (cardAfter c) budget list start)
     → turnReply p s c event budget list start ≡ runReply p (entered p event (entryCount event) s) (cardAfter c) budget list start
 
@@ -168,7 +168,7 @@ TurnIsBoth =
 abbrev pub BothOfTurn : Type 0
 BothOfTurn =
     (p : Image) (s : State) (c : Card) (event : List ℕ) (budget : ℕ) (list : List ℕ) (start : ℕ) → Sized s → HasRun (turnReply p s c event budget list start)
-    → Takes p s c event × HasRun (runReply p (entered p event (entryCount event) s) (cardAfter c) budget list start)
+    → Accepts p s c event × HasRun (runReply p (entered p event (entryCount event) s) (cardAfter c) budget list start)
 
 -- ---- what holds of the reply of a run and of a turn
 -- "Quiet means that no rule applies", "The phase is Quiet exactly after the answer Quiet"

@@ -76,12 +76,12 @@ pub enum Condition {
     Repeat,
 }
 
-// What a rule makes of outcome and failure. Failed has the failure; Judged: IterationEnded through End or Finishing.
+// What a rule makes of outcome and failure. Failed has the outcome and the failure; Judged: IterationEnded through End or Finishing.
 pub enum Effect {
     Kept,
     Cleared,
     Skipped,
-    Failed(u8),
+    Failed(u8, u8),
     Judged,
 }
 

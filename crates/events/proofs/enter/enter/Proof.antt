@@ -2,13 +2,13 @@
 use mathlib.Core.Path.{ap, ap₂, _∙_}
 use Rattle.plexil.specs.Image.{lookKind}
 use Rattle.plexil.specs.Places.{knownCell}
-use Rattle.plexil.specs.Macro.{withLookup, withMark, enter}
+use Rattle.plexil.specs.Macro.{formOf, withLookup, withMark, enter}
 use Rattle.events.proofs.Laws.{lookup-at, enter-mark}
 use Rattle.events.proofs.enter.enter.Statement.{statement}
 use Rattle.events.proofs.enter.enter.Tie as tie
 
 pub enter-spec : {M : Type 1} → statement M
-unfolding enter
+unfolding enter formOf
 enter-spec =
     tie.close
     (tie.spec

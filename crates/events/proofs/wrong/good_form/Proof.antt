@@ -1,9 +1,11 @@
 -- By the form.
+use Rattle.plexil.specs.Macro.{formOf}
 use Rattle.events.proofs.Laws.{no-form}
 use Rattle.events.proofs.wrong.good_form.Statement.{statement}
 use Rattle.events.proofs.wrong.good_form.Tie as tie
 
 pub good-form-spec : {M : Type 1} → statement M
+unfolding formOf
 good-form-spec =
     tie.close
     (tie.spec
