@@ -1,6 +1,6 @@
 -- The entries below k are entered; what is left of them falls.
-use Prim.Native.Nat.{ℕ, _≤_, _-_}
-use mathlib.Core.Path.{_≡_, ap₂, _∙_}
+use Prim.Native.Nat.{_≤_, _-_}
+use mathlib.Core.Path.{_≡_, ap, ap₂, _∙_}
 use native.Mathlib.Omega.{arith}
 use Rattle.plexil.specs.Macro.{formOf, enter, entered}
 use Rattle.events.proofs.Laws.{entered-none, entered-next, entered-all}
@@ -26,5 +26,5 @@ entered-spec =
     (λ _ _. tt)
     (λ c. omega arith)
     (λ c. omega arith)
-    (λ c. (omega arith, c .enter .ensures ∙ (ap₂ (λ (f : ℕ). enter _ _ _ (formOf f)) (c .before .entry-form .ensures) (c .before .before .before .loop .inv .1) ∙ entered-next _ _ _ _)))
+    (λ c. (omega arith, c .enter .ensures ∙ (ap₂ (enter _ _ _) (ap formOf (c .before .entry-form .ensures)) (c .before .before .before .loop .inv .1) ∙ entered-next _ _ _ _)))
     (λ c. entered-all _ _ _ (c .before .before .entry-count .ensures) (c .before .loop .inv .0) (c .loop-test .left) (c .before .loop .inv .1)))

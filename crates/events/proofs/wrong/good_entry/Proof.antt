@@ -1,5 +1,4 @@
 -- The spare, then the form.
-use Prim.Native.Nat.{ℕ}
 use mathlib.Core.Path.{refl, ap, _∙_}
 use Rattle.plexil.specs.Macro.{formOf, goodForm, goodEntry}
 use Rattle.plexil.proofs.TestLaws.{one-fails, and-then, and-last, eq-yes, eq-no}
@@ -15,4 +14,4 @@ good-entry-spec =
     (λ c. one-fails _ 0 (eq-no (c .before .entry-spare .ensures) refl (c .if1 .taken)))
     (λ _ _. tt)
     (λ _ _. tt)
-    (λ c. and-then _ (eq-yes (c .before .before .before .entry-spare .ensures) refl (c .before .before .if1 .left)) (and-last (c .good-form .ensures ∙ ap (λ (f : ℕ). goodForm _ _ _ (formOf f)) (c .before .entry-form .ensures)))))
+    (λ c. and-then _ (eq-yes (c .before .before .before .entry-spare .ensures) refl (c .before .before .if1 .left)) (and-last (c .good-form .ensures ∙ ap (goodForm _ _ _) (ap formOf (c .before .entry-form .ensures))))))
