@@ -1,5 +1,5 @@
--- Two operands' answer by the operator's number, the operands that the code reads of an entry, a number that is no leaf, and a condition with its default.
-use Prim.Native.Nat.{ℕ, suc, _+_, _-_, _*_}
+-- Two operands' answer by the operator's number, the operands that the code reads of an entry, a leaf's answer, a number that is no leaf, and a condition with its default.
+use Prim.Native.Nat.{ℕ, zero, suc, _+_, _-_, _*_, _<_}
 use mathlib.Core.Path.{_≡_, refl, ap, _∙_}
 use mathlib.Core.Logic.{⊎-elim}
 use native.Mathlib.Omega.{arith}
@@ -9,9 +9,9 @@ use Rattle.plexil.specs.declared.Worked.{Worked}
 use Rattle.plexil.specs.declared.Worked.the-variants.{Clash}
 use Rattle.plexil.specs.declared.Condition.{Condition}
 use Rattle.plexil.specs.Bytes.{le16}
-use Rattle.plexil.specs.Image.{Image, exprsAt, exprAt, operandA, operandB}
+use Rattle.plexil.specs.Image.{Image, exprsAt, exprAt, resultKind, operandA, operandB, constant}
 use Rattle.plexil.specs.Places.{Seen}
-use Rattle.plexil.specs.Expressions.{Binary, binary, operatorOf, binaryOf}
+use Rattle.plexil.specs.Expressions.{Binary, binary, operatorOf, leafOf, binaryOf, answerOf}
 use Rattle.plexil.specs.Atomic.{condition, defaultOf}
 use Rattle.plexil.proofs.ListLaws.{tested, same?}
 use Rattle.plexil.proofs.OperatorNumbers.{a-leaf, no-operator, NoneOf, past}
@@ -40,6 +40,21 @@ module _ (p : Image) (e : ℕ) {base a : ℕ} (at : base ≡ exprsAt p) where
   pub is-b : a ≡ le16 p (base + 16 * e + 4) → a ≡ operandB p e
   unfolding operandB exprAt
   is-b h = h ∙ ap (λ (b : ℕ). le16 p (b + 16 * e + 4)) at
+
+-- ---- a leaf's answer, by its operator's number
+pub leaf-answers : (p : Image) (s : Seen) (e : ℕ) (sub : ℕ → Worked) {base op : ℕ} → base ≡ exprsAt p → op < 6
+    → leafAnswer p (base + 16 * e) op s ≡ answerOf (operatorOf op) p s e sub
+unfolding answerOf leafAnswer operatorOf leafOf resultKind operandA operandB constant exprAt
+leaf-answers p s e sub {base} {op} at l = by op refl l
+  where
+    by : (k : ℕ) → op ≡ k → k < 6 → leafAnswer p (base + 16 * e) op s ≡ answerOf (operatorOf op) p s e sub
+    by zero h g = rw (h, at) refl
+    by (suc zero) h g = rw (h, at) refl
+    by (suc (suc zero)) h g = rw (h, at) refl
+    by (suc (suc (suc zero))) h g = rw (h, at) refl
+    by (suc (suc (suc (suc zero)))) h g = rw (h, at) refl
+    by (suc (suc (suc (suc (suc zero))))) h g = rw (h, at) refl
+    by (suc (suc (suc (suc (suc (suc k)))))) h g = absurd (omega arith)
 
 -- ---- a number past 5 is no leaf
 pub no-leaf : (p : Image) (at op : ℕ) (s : Seen) → NoneOf 0 6 op → Clash ≡ leafAnswer p at op s

@@ -13,14 +13,14 @@ use Rattle.plexil.specs.declared.Worked.the-variants.{Clash}
 use Rattle.plexil.specs.Lists.{if_then_else_}
 use Rattle.plexil.specs.Values.{notOf}
 use Rattle.plexil.specs.Bytes.{byteAt, le16}
-use Rattle.plexil.specs.Image.{Image, exprsAt, exprAt, operator, operandA, operandB, resultKind, constant}
+use Rattle.plexil.specs.Image.{Image, exprsAt, exprAt, operator, operandA, operandB}
 use Rattle.plexil.specs.Places.{Seen}
-use Rattle.plexil.specs.Expressions.{operatorOf, operatorAt, answerOf, evalOf, valueOf, leafOf}
+use Rattle.plexil.specs.Expressions.{operatorOf, operatorAt, answerOf, evalOf, valueOf}
 use Rattle.plexil.proofs.OperatorNumbers.{a-binary, no-operator}
 use Rattle.evaluate.specs.Binary.{joinOf}
 use Rattle.evaluate.specs.Leaves.{leafAnswer}
 use Rattle.evaluate.specs.Pending.{endedOf, resumed, current}
-use Rattle.evaluate.proofs.Laws.{is-a, is-b}
+use Rattle.evaluate.proofs.Laws.{is-a, is-b, leaf-answers}
 use Rattle.evaluate.proofs.PendingLaws.{ended-not, ended-first, pushed, popped-not, turned, popped}
 
 -- e₀ is the entry that is asked for
@@ -67,17 +67,7 @@ module _ (p : Image) (s : Seen) (d e : ℕ) {base op : ℕ} (deep : d ≡ 0 → 
   eval-past l = rw (no-operator op l) at eval-is
 
   eval-leaf : op < 6 → leafAnswer p (base + 16 * e) op s ≡ evalOf p s d e
-  unfolding answerOf leafAnswer operatorOf leafOf resultKind operandA operandB constant exprAt
-  eval-leaf l = by op refl l ∙ eval-is
-    where
-      by : (k : ℕ) → op ≡ k → k < 6 → leafAnswer p (base + 16 * e) op s ≡ answerOf (operatorOf op) p s e (λ x. evalOf p s (d - 1) x)
-      by zero h g = rw (h, at) refl
-      by (suc zero) h g = rw (h, at) refl
-      by (suc (suc zero)) h g = rw (h, at) refl
-      by (suc (suc (suc zero))) h g = rw (h, at) refl
-      by (suc (suc (suc (suc zero)))) h g = rw (h, at) refl
-      by (suc (suc (suc (suc (suc zero))))) h g = rw (h, at) refl
-      by (suc (suc (suc (suc (suc (suc k)))))) h g = absurd (omega arith)
+  eval-leaf l = leaf-answers p s e _ at l ∙ eval-is
 
   -- an operator with its first operand gone into
   eval-operator : (x : Worked) → (op < 6 → ⊥) → op ≤ 14 → endedOf p s (d - 1) op (operandB p e) x (evalOf p s (d - 1) (operandA p e)) ≡ evalOf p s d e

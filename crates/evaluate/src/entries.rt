@@ -12,7 +12,7 @@ ghost use Rattle.plexil.specs.Expressions.{valueOf};
 ghost use Rattle.evaluate.specs.Leaves.{leafAnswer};
 
 // The answer of an entry without operands, whose record stands at `at`; any other number is no leaf.
-fn leaf<'a>(
+pub fn leaf<'a>(
     image: &'a [u8],
     at: u32,
     op: u8,

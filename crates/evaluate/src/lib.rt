@@ -4,7 +4,10 @@ mod conditions;
 mod entries;
 mod leaves;
 
+pub use binary::join;
 pub use conditions::condition;
 pub use conditions::fails;
 pub use conditions::holds;
+pub use entries::leaf;
 pub use entries::value_of;
+pub use leaves::cell_value;

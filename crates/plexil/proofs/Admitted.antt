@@ -60,6 +60,10 @@ module _ (p : Image) (a : IsAdmitted p) where
   unfolding goodCount
   few-nodes = leb-true _ _ (every-at _ 1 good-count)
 
+  pub few-entries : exprCount p ≤ 2048
+  unfolding goodCount
+  few-entries = leb-true _ _ (every-at _ 2 good-count)
+
   pub few-vars : varCount p ≤ 128
   unfolding goodCount
   few-vars = leb-true _ _ (every-at _ 3 good-count)

@@ -29,7 +29,7 @@ Each notOp p e P = P (operandA p e)
 Each (binary o) p e P = P (operandA p e) × P (operandB p e)
 Each noOperator p e P = Unit {0}
 
-each-map : (o : Operator) (p : Image) (e : ℕ) (P Q : ℕ → Type 0) → ((x : ℕ) → P x → Q x) → Each o p e P → Each o p e Q
+pub each-map : (o : Operator) (p : Image) (e : ℕ) (P Q : ℕ → Type 0) → ((x : ℕ) → P x → Q x) → Each o p e P → Each o p e Q
 each-map (leaf o) p e P Q f h = tt
 each-map notOp p e P Q f h = f _ h
 each-map (binary o) p e P Q f h = (f _ (h .0), f _ (h .1))
@@ -109,7 +109,7 @@ pub record Within (p : Image) (d e : ℕ) : Type 0 where
   pub there : e < exprCount p
   pub deep : depthWithin p d e ≡ true
 
-no-level : (p : Image) (e : ℕ) → depthWithin p zero e ≡ true → ⊥
+pub no-level : (p : Image) (e : ℕ) → depthWithin p zero e ≡ true → ⊥
 unfolding depthWithin
 no-level p e w = false≢true w
 
@@ -126,6 +126,17 @@ module _ (p : Image) (q : IsAdmitted p) where
       let l = binary-lower p e o g in
       (record { there = omega (arith, l .0); deep = every-at _ 0 w }, record { there = omega (arith, l .1); deep = every-at _ 1 w })
   each-within noOperator d e b g w = tt
+
+  each-lower : (o : Operator) (e : ℕ) → goodOperator o p e ≡ true → Each o p e (λ x. x < e)
+  unfolding goodOperator
+  each-lower (leaf o) e g = tt
+  each-lower notOp e g = operand-lower p e _ _ (every-at _ 0 g)
+  each-lower (binary o) e g = binary-lower p e o g
+  each-lower noOperator e g = tt
+
+  -- "Operand entries have lower numbers than their own entry"
+  pub operands-lower : (e : ℕ) → e < exprCount p → Each (operatorAt p e) p e (λ x. x < e)
+  operands-lower e b = each-lower (operatorAt p e) e (good-operator e b)
 
   -- an operand's tree needs one level less
   pub operands-within : (d e : ℕ) → Within p (suc d) e → Each (operatorAt p e) p e (Within p d)

@@ -1,0 +1,13 @@
+pub mod Steady
+pub mod Lossless
+pub mod EntryLaws
+pub mod Filling
+pub mod Untouched
+pub mod FlagLaws
+pub mod Renewing
+pub mod Ranging
+pub mod Given
+pub mod Frame
+pub mod Stays
+pub mod Quiet
+pub mod Passed

@@ -1,0 +1,5 @@
+pub mod Table
+pub mod Changes
+pub mod Ranges
+pub mod Reads
+pub mod Passing
