@@ -7,7 +7,8 @@
  *
  * Lent memory is as samblokur.h says: every pointer is non-null, also of a text
  * or an image of length 0, and image and report overlap nothing else. Nothing
- * is required of the text's contents.
+ * is required of the text's contents. A call is to have 256 KB of stack, which
+ * the texts that ask most of it are tried with.
  */
 #ifndef SAMBLOKUR_TEXT_H
 #define SAMBLOKUR_TEXT_H
