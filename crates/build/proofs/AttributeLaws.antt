@@ -19,6 +19,7 @@ use Rattle.recognise.specs.declared.Cursor.{Cursor}
 use Rattle.recognise.specs.Codes as Codes
 use Rattle.recognise.specs.Codes.{sayOf}
 use Rattle.recognise.specs.Hears.{piece}
+use Rattle.names.proofs.ViewLaws.{length-last, length-snoc}
 use Rattle.build.specs.declared.attributes.Described.{Described}
 use Rattle.build.specs.declared.nodes.Course.{Course}
 use Rattle.build.specs.Flow as Flow
@@ -34,9 +35,9 @@ use Rattle.build.specs.Telling.{LaysVariable, LaysInitial, ExpressesBy, 
 use Rattle.build.proofs.Phrased.{expression-due}
 use Rattle.build.proofs.EntryLaws.{entries-length}
 use Rattle.build.proofs.Growth.{grows}
-use Rattle.build.proofs.Growing.{last-length, more-all}
+use Rattle.build.proofs.Growing.{more-all}
 use Rattle.build.proofs.HoldLaws.{holds-same}
-use Rattle.build.proofs.LayLaws.{lay-entries, more-length}
+use Rattle.build.proofs.LayLaws.{lay-entries}
 use Rattle.build.proofs.AttributeViews.{condition-few, first-said, is-condition, is-rank, is-variable, is-initial, is-end, likewise}
 
 -- ---- expressions
@@ -144,7 +145,7 @@ module _ (u : List ℕ) (whole : Draft) (before : List Node) (parent : ℕ) wher
     -- the node is the last of the draft's
     pub node-here : here (t .draft) ≡ length before
     unfolding last
-    node-here = omega (arith, ap length (t .current .nodes), more-length before (t .current .current))
+    node-here = omega (arith, ap length (t .current .nodes), length-snoc before (t .current .current))
 
     pub last-changed : (f : Node → Node) → atLast f (t .draft .nodes) ≡ before ▸ f (t .current .current)
     last-changed f = ap (atLast f) (t .current .nodes) ∙ at-last f before (t .current .current)
@@ -171,7 +172,7 @@ module _ (u : List ℕ) (whole : Draft) (before : List Node) (parent : ℕ) wher
         let d : Draft = hear x (t .next .token) (t .draft) in
         let v : Variable = record { name = t .next .token .bytes; kind = y .0; owner = here (t .draft); known = 0; initial = 0 } in
         let fewer : length (t .draft .variables) < length (whole .variables) =
-        omega (arith, more-all (t .later) d .1, more-length (t .draft .variables) v, ap (λ z. length (z .variables)) (heard-so x (y .1))) in
+        omega (arith, more-all (t .later) d .1, length-snoc (t .draft .variables) v, ap (λ z. length (z .variables)) (heard-so x (y .1))) in
         let z = h whole before (t .draft .entries) (t .draft .variables) v (site .limited) (site .variables) (t .between .variables) fewer (t .between .laid)
         (kind-is (y .0) ∙ omega (arith, y .2, t .code)) refl (node-here ∙ sym e) refl in
         told-next (t .later) k d (size - 1) (a .at) _ g after (t .hears) (y .3) (omega (arith, t .short))
@@ -188,7 +189,7 @@ module _ (u : List ℕ) (whole : Draft) (before : List Node) (parent : ℕ) wher
         let z = h whole before (t .draft .entries) (t .draft .variables) (site .limited) (site .variables) (t .between .variables) (t .between .laid) in
         told-next (t .later) k d (size - 1) (a .at) _ g after (t .hears) (y .1) (omega (arith, t .short))
         (record { current = t .current .current; nodes = t .current .nodes; above = t .current .above; parent = t .current .parent; priority = t .current .priority; given = t .current .given; seven = t .current .seven; plain = t .current .plain })
-        (record { leads = ap (hearAll (t .later)) (sym (b (t .next) (t .draft) (t .heard) (t .code) (y .0))) ∙ t .between .leads; none = t .between .none; free = t .between .free; laid = z; entries = t .between .entries; variables = t .between .variables ∙ sym (last-length (withInitial w) (t .draft .variables)) }) st
+        (record { leads = ap (hearAll (t .later)) (sym (b (t .next) (t .draft) (t .heard) (t .code) (y .0))) ∙ t .between .leads; none = t .between .none; free = t .between .free; laid = z; entries = t .between .entries; variables = t .between .variables ∙ sym (length-last (withInitial w) (t .draft .variables)) }) st
 
     -- a condition
     pub told-condition : (c r : Cursor) (node base vbase many e : ℕ) (tb : Tables) (after : List ℕ) {A B : Type 0} → A → Site u whole tb base vbase → node ≡ length before → size ≤ length u → 12 ≤ a .at .says → a .at .says < 19
@@ -201,7 +202,7 @@ module _ (u : List ℕ) (whole : Draft) (before : List Node) (parent : ℕ) wher
         let x : Saying = conditions i in
         let d : Draft = withSlot (condition i) (t .draft) in
         let p : a .at .says - 12 ≡ i = omega (arith, t .code, y .2) in
-        let z = h whole d before (t .later) (y .3) vbase (a .variables) room site (n ∙ sym node-here) (omega (arith, more-all (t .next ∷ t .later) (t .draft) .0, ap (λ q. length (q .nodes)) (t .between .leads), ap length (t .current .nodes), more-length before (t .current .current), site .limited .nodes)) (y .4) (omega (arith, t .short)) (t .hears)
+        let z = h whole d before (t .later) (y .3) vbase (a .variables) room site (n ∙ sym node-here) (omega (arith, more-all (t .next ∷ t .later) (t .draft) .0, ap (λ q. length (q .nodes)) (t .between .leads), ap length (t .current .nodes), length-snoc before (t .current .current), site .limited .nodes)) (y .4) (omega (arith, t .short)) (t .hears)
         (record { leads = heard-so x (y .1); none = t .between .none; free = t .between .free; laid = t .between .laid; entries = t .between .entries; variables = t .between .variables }) in
         let es = z .0 in
         let now : Node = withGiven (set (t .current .current .given) i (last es)) (t .current .current) in

@@ -13,12 +13,12 @@ use Rattle.notation.specs.Sayings.{What, Operator, Saying, silence, declaresCom
 use Rattle.notation.specs.Draft.{Entry, negation, about, Pending, prefix, paren, infix′, withHeld, Draft}
 use Rattle.notation.specs.Hearing as Hearing
 use Rattle.notation.specs.Hearing.{_▸_, ending, waiting, last, made, strength, settleName, mentionPath, negated, adding, hear, hearAll}
+use Rattle.names.proofs.ViewLaws.{length-snoc}
 use Rattle.build.specs.Pendings.{operators}
-use Rattle.build.proofs.LayLaws.{more-length}
 use Rattle.build.proofs.Numbers.{made-two}
 
 one-more : (es : List Entry) (n : ℕ) (e : Entry) → length es + n ≤ length (es ▸ e) + n
-one-more es n e = omega (arith, more-length es e)
+one-more es n e = omega (arith, length-snoc es e)
 
 ending-more : (k : ℕ) (ps : List Pending) (es : List Entry) → length es + operators ps ≤ length (ending k ps es) + operators (waiting k ps)
 unfolding ending waiting operators
@@ -28,7 +28,7 @@ ending-more k (prefix ∷ ps) es = go (leb k 3) (ending-more k ps (es ▸ negati
   where
     go : (b : Bool) → length (es ▸ negation (last es)) + operators ps ≤ length (ending k ps (es ▸ negation (last es))) + operators (waiting k ps)
         → length es + suc (operators ps) ≤ length (cond b (ending k ps (es ▸ negation (last es))) es) + operators (cond b (waiting k ps) (prefix ∷ ps))
-    go true h = omega (arith, more-length es (negation (last es)))
+    go true h = omega (arith, length-snoc es (negation (last es)))
     go false h = omega arith
 ending-more k (infix′ o a ∷ ps) es = go (leb k (strength o)) (es ++ made o a (last es) (length es)) (omega (arith, length-append es (made o a (last es) (length es)), ap length (made-two o a (last es) (length es)))) (ending-more k ps (es ++ made o a (last es) (length es)))
   where
@@ -87,7 +87,7 @@ hear-more (unknown k) t d = one-more (d .entries) (operators (d .pending)) _
 hear-more reads t d = one-more (d .entries) (operators (d .pending)) _
 hear-more mentions t d = omega arith
 hear-more descends t d = omega arith
-hear-more (asks w n k) t d = let q = path-keeps [] (d .held) (withHeld [] d) in omega (arith, ap length (q .0), ap operators (q .1), negated-more n (adding (about w (Hearing.here d) (Hearing.allBytes (d .held)) k) (mentionPath [] (d .held) (withHeld [] d))), more-length (mentionPath [] (d .held) (withHeld [] d) .entries) (about w (Hearing.here d) (Hearing.allBytes (d .held)) k))
+hear-more (asks w n k) t d = let q = path-keeps [] (d .held) (withHeld [] d) in omega (arith, ap length (q .0), ap operators (q .1), negated-more n (adding (about w (Hearing.here d) (Hearing.allBytes (d .held)) k) (mentionPath [] (d .held) (withHeld [] d))), length-snoc (mentionPath [] (d .held) (withHeld [] d) .entries) (about w (Hearing.here d) (Hearing.allBytes (d .held)) k))
 hear-more negates t d = omega arith
 hear-more (operates o) t d = omega (arith, settled-more d (d .held), ending-more (strength o) (settleName d (d .held) .pending) (settleName d (d .held) .entries))
 hear-more parenthesis t d = omega arith

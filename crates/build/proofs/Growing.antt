@@ -11,19 +11,13 @@ use Rattle.notation.specs.Sayings.{What, Saying, silence, declaresCommand, numb
 use Rattle.notation.specs.Draft.{Entry, about, withHeld, Draft}
 use Rattle.notation.specs.Hearing as Hearing
 use Rattle.notation.specs.Hearing.{_▸_, atLast, settleName, mentionPath, negated, adding, hear, hearAll}
-use Rattle.build.proofs.LayLaws.{more-length}
-
-pub last-length {ℓ} : {A : Type ℓ} (f : A → A) (l : List A) → length (atLast f l) ≡ length l
-unfolding atLast
-last-length f [] = refl
-last-length f (a ∷ []) = refl
-last-length f (a ∷ (b ∷ l)) = ap suc (last-length f (b ∷ l))
+use Rattle.names.proofs.ViewLaws.{length-last, length-snoc}
 
 last-more {ℓ} : {A : Type ℓ} (f : A → A) (l m : List A) → l ≡ m → length m ≤ length (atLast f l)
-last-more f l m e = omega (arith, last-length f l, ap length e)
+last-more f l m e = omega (arith, length-last f l, ap length e)
 
 one-more {ℓ} : {A : Type ℓ} (l : List A) (a : A) → length l ≤ length (l ▸ a)
-one-more l a = omega (arith, more-length l a)
+one-more l a = omega (arith, length-snoc l a)
 
 -- d has as many nodes and variables as e, or fewer
 abbrev pub More : Draft → Draft → Type 0

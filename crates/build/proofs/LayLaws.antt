@@ -13,6 +13,7 @@ use Rattle.notation.specs.Hearing.{_▸_, atLast}
 use Rattle.notation.specs.Mapping.{kindCode, nodeBytes, allNodes, allVariables, allLookups}
 use Rattle.notation.proofs.OwnedHeard.{at-last}
 use Rattle.notation.proofs.ImageLength.{length-bytes, length-node, length-join, variables-sized, variables-many}
+use Rattle.names.proofs.ViewLaws.{length-snoc}
 use Rattle.build.specs.Standing.{entriesBytes, header}
 use Rattle.build.specs.Laying.{Holds, headOf, Limited, Laid, entriesAt, variablesAt, lookupsAt}
 use Rattle.build.proofs.EntryLaws.{entries-length}
@@ -20,10 +21,6 @@ use Rattle.build.proofs.Puts.{words-size, put-one}
 use Rattle.build.proofs.HoldLaws.{stands, stays-before, stays-beyond, holds-more, holds-first, holds-second}
 
 -- ---- records one after another
-pub more-length {ℓ} : {A : Type ℓ} (l : List A) (a : A) → length (l ▸ a) ≡ suc (length l)
-unfolding _▸_
-more-length l a = length-append l (a ∷ []) ∙ omega arith
-
 join-more : (rs : List (List ℕ)) (r : List ℕ) → join (rs ▸ r) ≡ join rs ++ r
 unfolding join _▸_
 join-more [] r = append-none r
@@ -84,8 +81,8 @@ module _ (whole : Draft) (ns : List Node) (es : List Entry) (vs : List Variable)
       let beyond = stays-beyond image after place r q low in
       record {
         size = ap length q ∙ length-put image place r room ∙ a .size;
-        sized = ap length j ∙ length-append (join (allNodes whole 0 ns)) r ∙ omega (arith, a .sized, more-length ns m);
-        fewNodes = omega (arith, more-length ns m);
+        sized = ap length j ∙ length-append (join (allNodes whole 0 ns)) r ∙ omega (arith, a .sized, length-snoc ns m);
+        fewNodes = omega (arith, length-snoc ns m);
         fewEntries = a .fewEntries;
         fewVariables = a .fewVariables;
         head = stays-before image after place r q low 0 (headOf whole) (omega (arith, head-length whole)) (a .head);
@@ -154,7 +151,7 @@ module _ (whole : Draft) (ns : List Node) (es : List Entry) (vs : List Variable)
       let j : join (allVariables (vs ▸ v)) ≡ join (allVariables vs) ++ r =
       ap join (variables-more vs v) ∙ join-more (allVariables vs) (Assemble.variable (kindCode (v .kind)) (v .known) (v .owner) (v .initial)) ∙ ap (λ x. join (allVariables vs) ++ x) b in
       lay-among (vs ▸ v) after (ap length q ∙ length-put image place r (omega (arith, f .nodes, f .entries, f .variables, a .size)))
-      (λ n x m. stays-before image after place r q low n x (omega arith)) (λ n x m. stays-beyond image after place r q low n x (omega arith)) (omega (arith, more-length vs v))
+      (λ n x m. stays-before image after place r q low n x (omega arith)) (λ n x m. stays-beyond image after place r q low n x (omega arith)) (omega (arith, length-snoc vs v))
       (subst (λ x. Holds after (variablesAt whole) x) (sym j)
       (holds-more after (variablesAt whole) (join (allVariables vs)) r (stays-before image after place r q low (variablesAt whole) (join (allVariables vs)) (omega (arith, variables-length vs)) (a .variables))
       (subst (λ n. Holds after n r) p (stands image after place r q low))))
@@ -191,7 +188,7 @@ module _ (whole : Draft) (ns : List Node) (es : List Entry) (vs : List Variable)
   initial-of : (i : List Variable) (v : Variable) (w k : ℕ) (one after : List ℕ) → vs ≡ i ▸ v → k ≡ variablesAt whole + 16 * (length vs - 1) → one ≡ put image (k + 1) (1 ∷ []) → after ≡ put one (k + 8) (bytes 8 w)
       → Laid whole ns es (i ▸ withInitial w v) after
   initial-of i v w k one after e g p q =
-      let many : length vs ≡ suc (length i) = ap length e ∙ more-length i v in
+      let many : length vs ≡ suc (length i) = ap length e ∙ length-snoc i v in
       let r : List ℕ = Assemble.variable (kindCode (v .kind)) (v .known) (v .owner) (v .initial) in
       let r′ : List ℕ = Assemble.variable (kindCode (v .kind)) 1 (v .owner) w in
       let place : k ≡ variablesAt whole + length (join (allVariables i)) = omega (arith, variables-length i) in
@@ -207,7 +204,7 @@ module _ (whole : Draft) (ns : List Node) (es : List Entry) (vs : List Variable)
       subst (λ x. Holds image (variablesAt whole) x) (ap (λ x. join (allVariables x)) e ∙ ap join (variables-more i v) ∙ join-more (allVariables i) r) (a .variables) in
       let old : Holds image k r = subst (λ n. Holds image n r) (sym place) (holds-second image (variablesAt whole) (join (allVariables i)) r all) in
       let j : join (allVariables (i ▸ withInitial w v)) ≡ join (allVariables i) ++ r′ = ap join (variables-more i (withInitial w v)) ∙ join-more (allVariables i) r′ in
-      lay-among (i ▸ withInitial w v) after both (λ n x m. before n x (omega arith)) (λ n x m. beyond n x (omega (arith, a .fewVariables))) (omega (arith, more-length i (withInitial w v), a .fewVariables))
+      lay-among (i ▸ withInitial w v) after both (λ n x m. before n x (omega arith)) (λ n x m. beyond n x (omega (arith, a .fewVariables))) (omega (arith, length-snoc i (withInitial w v), a .fewVariables))
       (subst (λ x. Holds after (variablesAt whole) x) (sym j)
       (holds-more after (variablesAt whole) (join (allVariables i)) r′ (before (variablesAt whole) (join (allVariables i)) (omega (arith, variables-length i)) (holds-first image (variablesAt whole) (join (allVariables i)) r all))
       (subst (λ n. Holds after n r′) place (last-known v w k one after p q room old))))

@@ -16,6 +16,7 @@ use Rattle.notation.specs.Mapping.{numberOf, numberOfCommand, nodeBytes}
 use Rattle.notation.proofs.OwnedHeard.{at-last}
 use Rattle.recognise.specs.declared.Cursor.{Cursor}
 use Rattle.recognise.specs.Hears.{piece}
+use Rattle.names.proofs.ViewLaws.{length-last, length-snoc}
 use Rattle.build.specs.declared.attributes.Described.{Described}
 use Rattle.build.specs.declared.nodes.Course.{Course}
 use Rattle.build.specs.Flow.{codeOf}
@@ -25,8 +26,7 @@ use Rattle.build.specs.Standing.{within}
 use Rattle.build.specs.Steps.{Stepped}
 use Rattle.build.specs.Laying.{Laid, Site, Between, Current, Keeps}
 use Rattle.build.specs.Telling.{LaysNode, ExpressesBy, Telling, Opened, Done, Listing}
-use Rattle.build.proofs.Growing.{last-length, more-all}
-use Rattle.build.proofs.LayLaws.{more-length}
+use Rattle.build.proofs.Growing.{more-all}
 use Rattle.build.proofs.AttributeViews.{is-list, is-command, is-assignment, first-node, is-closed, is-node}
 use Rattle.build.proofs.AttributeLaws.{last-is, heard-so, node-here, last-changed}
 
@@ -43,7 +43,7 @@ parent-last [] n = refl
 parent-last (m ∷ ns) n = parent-last ns n
 
 keeps-more : (ns : List Node) (n : Node) → Keeps ns (ns ▸ n)
-keeps-more ns n = record { many = omega (arith, more-length ns n); parents = parents-before ns n }
+keeps-more ns n = record { many = omega (arith, length-snoc ns n); parents = parents-before ns n }
 
 pub keeps-same : (ns : List Node) → Keeps ns ns
 keeps-same ns = record { many = omega arith; parents = λ i h. refl }
@@ -61,7 +61,7 @@ module _ (u : List ℕ) (whole : Draft) (before : List Node) (parent size : ℕ)
 
   -- there is room for the node
   room : length before < length (whole .nodes)
-  room = omega (arith, more-all (t .next ∷ t .later) (t .draft) .0, ap (λ q. length (q .nodes)) (t .between .leads), ap length (t .current .nodes), more-length before (t .current .current))
+  room = omega (arith, more-all (t .next ∷ t .later) (t .draft) .0, ap (λ q. length (q .nodes)) (t .between .leads), ap length (t .current .nodes), length-snoc before (t .current .current))
 
   numbers : (form what val : ℕ) → Assemble.node (cur .parent) form (cur .priority) (cur .given) what val ≡ Assemble.node parent form (a .priority) g what val
   unfolding cur
@@ -136,7 +136,7 @@ module _ (u : List ℕ) (whole : Draft) (before : List Node) (parent size : ℕ)
       )
     where
       here-same : (x : List ℕ) → last (atLast (withBody (assignment x 0)) (t .draft .nodes)) ≡ length before
-      here-same x = ap (λ n. n - 1) (last-length (withBody (assignment x 0)) (t .draft .nodes)) ∙ node-here u whole before parent size k a g image t
+      here-same x = ap (λ n. n - 1) (length-last (withBody (assignment x 0)) (t .draft .nodes)) ∙ node-here u whole before parent size k a g image t
 
   -- a list opens
   pub list-opens : (node base vbase n : ℕ) (tb : Tables) (after : List ℕ) → Site u whole tb base vbase → node ≡ length before → a .at .says ≡ 8 → LaysNode node parent 0 (a .priority) g 65535 65535 image n after
@@ -155,7 +155,7 @@ module _ (u : List ℕ) (whole : Draft) (before : List Node) (parent size : ℕ)
           short = omega (arith, t .short);
           counted = z .1 ∙ ap length (sym q);
           above = node-here u whole before parent size k a g image t ∙ sym e;
-          inside = omega (arith, ap length q, more-length before cur);
+          inside = omega (arith, ap length q, length-snoc before cur);
           below = ap₂ parentIn q e ∙ parent-last before cur ∙ t .current .parent;
           between = record {
             leads = heard-so u whole before parent size k a g image t opensList (y .0);

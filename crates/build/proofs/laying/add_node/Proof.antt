@@ -1,6 +1,7 @@
 -- `build::laying::add_node` meets its contract.
 use native.Mathlib.Omega.{arith}
-use Rattle.build.proofs.LayLaws.{lay-one-node, more-length}
+use Rattle.names.proofs.ViewLaws.{length-snoc}
+use Rattle.build.proofs.LayLaws.{lay-one-node}
 use borrow.Author.Needs.{needs}
 use Rattle.build.proofs.laying.add_node.Statement.{statement}
 use Rattle.build.proofs.laying.add_node.Tie as tie
@@ -26,7 +27,7 @@ add-result c = search needs
 
 -- src/laying.rt:10:1
 returns : tie.Need-returns
-returns c whole ns es vs m f e h a b = (lay-one-node whole ns es vs _ f a m _ _ _ _ _ _ _ _ (c .before .before .before .pre) e h b (c .put-node .ensures), omega (arith, more-length ns m))
+returns c whole ns es vs m f e h a b = (lay-one-node whole ns es vs _ f a m _ _ _ _ _ _ _ _ (c .before .before .before .pre) e h b (c .put-node .ensures), omega (arith, length-snoc ns m))
 
 -- src/laying.rt:10:1
 returns-2 : tie.Need-returns-2

@@ -1,6 +1,7 @@
 -- `build::laying::add_variable` meets its contract.
 use native.Mathlib.Omega.{arith}
-use Rattle.build.proofs.LayLaws.{lay-unknown, more-length}
+use Rattle.names.proofs.ViewLaws.{length-snoc}
+use Rattle.build.proofs.LayLaws.{lay-unknown}
 use borrow.Author.Needs.{needs}
 use Rattle.build.proofs.laying.add_variable.Statement.{statement}
 use Rattle.build.proofs.laying.add_variable.Tie as tie
@@ -34,7 +35,7 @@ add-result c = search needs
 
 -- src/laying.rt:41:1
 returns-3 : tie.Need-returns-3
-returns-3 c whole ns es vs v f e g h a k n o i = (lay-unknown whole ns es vs _ f a v _ _ _ _ _ e g h k n o i (c .put-variable .ensures (a .size)), omega (arith, more-length vs v))
+returns-3 c whole ns es vs v f e g h a k n o i = (lay-unknown whole ns es vs _ f a v _ _ _ _ _ e g h k n o i (c .put-variable .ensures (a .size)), omega (arith, length-snoc vs v))
 
 pub add-variable-spec : {M : Type 1} → statement M
 add-variable-spec =
