@@ -13,8 +13,9 @@ fn main() {
     }
 }
 
-/// The repository's own build puts the libraries into target/staticlib, beside host/.
+/// Where tools/libraries puts them, beside host/: those for x86-64 into target/staticlib, those for another machine into target/native.
 fn beside_the_host() -> PathBuf {
     let here = env::var_os("CARGO_MANIFEST_DIR").map_or_else(PathBuf::new, PathBuf::from);
-    here.join("../../target/staticlib")
+    let is_x86 = env::var_os("CARGO_CFG_TARGET_ARCH").is_some_and(|name| name == "x86_64");
+    here.join("../../target").join(if is_x86 { "staticlib" } else { "native" })
 }
