@@ -1,4 +1,6 @@
 // The check of a plan image: the lowest broken of the rules 1 to 12, with the lowest record that breaks it.
+#![tactic(auto)]
+
 mod depth;
 mod kinds;
 mod numbers;

@@ -1,4 +1,6 @@
 // The answers of all entries in a state, worked out once each, in entry order: an operand has a lower number than its entry.
+#![tactic(auto)]
+
 mod conditions;
 mod entry;
 mod flags;

@@ -1,4 +1,6 @@
 // Int sum, difference and product within the range, and Reals that are finite: what is outside is Unknown.
+#![tactic(auto)]
+
 mod ints;
 mod reals;
 

@@ -1,4 +1,6 @@
 // 004's atomic relation in code: the one move that a node makes, and what it makes of the node's place.
+#![tactic(auto)]
+
 mod children;
 mod moved;
 mod rules;

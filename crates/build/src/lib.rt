@@ -1,4 +1,6 @@
 // The image of a text: its declarations, its nodes and lists, and its expressions, each read by functions of that name into the image's records.
+#![tactic(auto)]
+
 mod attributes;
 mod building;
 mod declarations;

@@ -1,4 +1,6 @@
 // Plans drawn as bytes: a small assembler, and the plans that the programs of known ends run.
+#![tactic(auto)]
+
 mod events;
 mod limits;
 mod plans;

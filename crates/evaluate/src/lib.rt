@@ -1,4 +1,6 @@
 // "Values and expressions": what an expression entry answers in a state, and what a node's condition answers with its default.
+#![tactic(auto)]
+
 mod binary;
 mod conditions;
 mod entries;

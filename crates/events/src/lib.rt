@@ -1,4 +1,6 @@
 // "Events": refusals 20 to 25 in order, and what an accepted event changes.
+#![tactic(auto)]
+
 mod answers;
 mod awaited;
 mod card;

@@ -1,4 +1,6 @@
 // Refusal 30: "state .. breaks the form, kinds or parent table, a mark off such a command". The part about the card is in crate turns.
+#![tactic(auto)]
+
 mod cells;
 mod nodes;
 mod statuses;

@@ -55,6 +55,7 @@ found-end remark x w (at-remark c h) l = absurd (false≢true (l.0))
 found-end star x w (at-star c h) l = absurd (false≢true (l.0))
 found-end aside x w (at-aside c h) l =
     subst (λ v. Spells ((47 ∷ (47 ∷ c)) ++ []) v) (l.1) (rw (append-nil c) (last_line c (rw (append-nil c) at (h [] refl))))
+found-end lost x w h l = elim h [ ]
 found-end (chunk q) x w (at-chunk q' h) l = subst (λ v. Spells (x ++ []) v) (l.1) (token x h refl done)
 
 free_more : (c : List ℕ) (b : ℕ) → eqb b 42 ≡ false → Free c → Free (c ++ (b ∷ []))
@@ -148,6 +149,7 @@ found-more b u f slash x w at-slash l = found-slash b u w f l
 found-more b u f remark x w (at-remark c h) l = found-remark c b u w h f l
 found-more b u f star x w (at-star c h) l = found-star c b u w h f l
 found-more b u f aside x w (at-aside c h) l = found-aside c b u w h f l
+found-more b u f lost x w h l = elim h [ ]
 found-more b u f (chunk q) x w (at-chunk q' h) l = found-chunk x b u w h f l
 
 found : (u : List ℕ) → Found u

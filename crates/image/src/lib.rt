@@ -1,4 +1,6 @@
 // The plan image of document 01: little-endian numbers, and the records that are made of them. Every reader is total on any bytes.
+#![tactic(auto)]
+
 mod bytes;
 mod exprs;
 mod looks;

@@ -1,4 +1,6 @@
 // The small plans with known ends, run through the calls; a line for each case.
+#![tactic(auto)]
+
 mod ends;
 mod small;
 

@@ -1,4 +1,6 @@
 // 004's micro relation in code: every node visited, and one step of them all.
+#![tactic(auto)]
+
 mod rest;
 mod steps;
 mod words;

@@ -1,4 +1,6 @@
 // The names of a text: which declaration a name means, and the first name that is not in order (42).
+#![tactic(auto)]
+
 mod answers;
 mod bad;
 mod filling;

@@ -1,4 +1,6 @@
 // "State, card, command list" in code: codes, what stands at a place, initial values and the fresh state.
+#![tactic(auto)]
+
 mod cells;
 mod fresh;
 mod statuses;

@@ -1,4 +1,6 @@
 // "An opened plan is a view over the caller's image bytes and copies none of them." Functions over the view are thin: the work is done on slice and number.
+#![tactic(auto)]
+
 mod records;
 
 ghost use Rattle.plan.specs.Permits.{OpenPermits, NodePermits, ExpressionPermits, VariablePermits, LookupPermits};

@@ -1,4 +1,6 @@
 // The types that the code and the definitions of document 01 share. No function: what they mean is in specs/.
+#![tactic(auto)]
+
 
 // A worked-out expression: a known value carries its kind. Clash: a value of another kind was met.
 #[derive(Drop)]

@@ -1,4 +1,6 @@
 // The machine that follows a text of the notation, token by token: what is still to come is told by a position, a set and two counts.
+#![tactic(auto)]
+
 ghost use Rattle.std.specs.Prelude.{◌≡◌, ◌<◌};
 ghost use Rattle.recognise.specs.Tables.{refusal, row_of};
 ghost use Rattle.recognise.specs.Hears.{Scanned};

@@ -1,4 +1,6 @@
 // Refusals 1 to 9: the header, the tree of nodes, and each record by itself.
+#![tactic(auto)]
+
 mod conditions;
 mod expressions;
 mod found;

@@ -1,4 +1,6 @@
 // A vector for each refusal number, run through the calls; a line for each case.
+#![tactic(auto)]
+
 mod calls;
 mod images;
 mod noticed;

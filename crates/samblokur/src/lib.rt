@@ -1,4 +1,6 @@
 // The library that a host links: check, fresh start, run and turn, each over memory that the host lends.
+#![tactic(auto)]
+
 mod calls;
 mod entries;
 mod reports;

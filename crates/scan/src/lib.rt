@@ -1,4 +1,6 @@
 // What stands next in a text: the token after blanks and comments, found by one loop for each kind of byte.
+#![tactic(auto)]
+
 mod bytes;
 mod comments;
 mod tokens;

@@ -1,4 +1,6 @@
 // "After the last visit the writes and the losers are settled from what is carried."
+#![tactic(auto)]
+
 mod losers;
 mod reads;
 mod variables;

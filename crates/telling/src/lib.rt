@@ -1,4 +1,6 @@
 // The calls made on a plan, and what they answered and left, told in words.
+#![tactic(auto)]
+
 mod answers;
 mod compared;
 mod left;

@@ -1,4 +1,6 @@
 // The calls by value: fresh start, run and turn, each with its whole reply. "Every call checks its image first".
+#![tactic(auto)]
+
 mod fresh_start;
 mod kept;
 mod reports;

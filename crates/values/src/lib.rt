@@ -1,4 +1,6 @@
 // "Values and expressions": the operators on worked-out values, and how a value is kept in a cell.
+#![tactic(auto)]
+
 mod cells;
 mod junctions;
 mod numbers;

@@ -1,4 +1,6 @@
 // "a visit reads only the state before the step and what earlier visits carried on", and the walk over the nodes in order.
+#![tactic(auto)]
+
 ghost use Rattle.std.specs.Prelude.{◌≡◌, Bool, not, false, List, ℕ, ◌<◌, get_or, set, length};
 ghost use Rattle.plexil.specs.Lists.{all_below, renew};
 ghost use Rattle.plexil.specs.Image.{node_count};

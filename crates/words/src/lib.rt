@@ -1,4 +1,6 @@
 // What one token of a text is: its class, its number, its bits, and how much of it is viable. A token is a part of the text.
+#![tactic(auto)]
+
 mod bytes;
 mod literals;
 mod numbers;
