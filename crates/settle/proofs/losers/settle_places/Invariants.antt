@@ -1,18 +1,8 @@
 -- Below i each place is settled, from i on it is as it was.
-use Prim.Native.Nat.{◌≤◌, ◌<◌, ◌-◌}
-use mathlib.Core.Path.{◌≡◌, sym, ap, ◌∙◌}
-use mathlib.Core.Logic.{⊎_elim}
-use native.Mathlib.Omega.{arith}
-use lib.ListN.{length, get_or}
-use mathlib.Core.Bool.{Bool, false}
-use mathlib.Core.List.{List}
-use borrow.Author.Rules.{rules}
+use Prim.Native.Nat.{◌≤◌, ◌-◌}
+use mathlib.Core.Path.{◌≡◌}
 use Rattle.plexil.specs.Lists.{renew}
-use Rattle.plexil.specs.Image.{node_count}
-use Rattle.plexil.specs.Order.{Carry, lost, settle}
-use Rattle.plexil.proofs.ListLaws.{if-true, if-false}
-use Rattle.plexil.proofs.RenewLaws.{renew-none, stored, kept, whole}
-use Rattle.plexil.proofs.Admitted.{few-nodes}
+use Rattle.plexil.specs.Order.{Carry}
 use Rattle.settle.proofs.Laws.{losers_get}
 use Rattle.settle.proofs.losers.settle_places.Given as goal
 
