@@ -24,7 +24,7 @@ use Rattle.names.specs.Seek.{seek, nobody}
 use Rattle.names.specs.Walking.{nodes_no, sort_no, name_by}
 use Rattle.names.specs.Answers.{Accepted, tale_said, found_of}
 use Rattle.names.specs.Judging.{settled_by, new_of, unless_of, Hearing}
-use Rattle.names.proofs.Told.{told}
+use Rattle.names.proofs.ToldLaws.{told}
 use Rattle.names.proofs.Grown.{fourfold, declared_by, grows, lists-grow-all}
 use Rattle.names.proofs.Paths.{bad-one, found-same}
 use Rattle.names.proofs.Mentions.{mention_by, own_first, declared-mention, is_call, is-assign, is_read, is-mention, is-descend, is_ask, is-settle, mentions-none}

@@ -21,7 +21,7 @@ use Rattle.names.specs.Order.{Standing, Orderly, over, onward}
 use Rattle.names.specs.Seek.{Shallow}
 use Rattle.names.specs.Walking.{lists_no, nodes_no, depth_no, end_no, heard_of, ended_of, Holds, Follows, Tells, Bounded, Walked, Started}
 use Rattle.names.proofs.Ordered.{plans-orderly}
-use Rattle.names.proofs.Told.{not-silent}
+use Rattle.names.proofs.ToldLaws.{not-silent}
 use Rattle.names.proofs.WalkLaws.{name-by, owner-by, nodes-by, depth-by, holds_by}
 
 silence-heard : say_of 94 ≡ silence

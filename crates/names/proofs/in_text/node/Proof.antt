@@ -1,4 +1,4 @@
--- `names::scan::node` meets its contract. The invariant: at most n nodes have begun.
+-- `names::in_text::node` meets its contract. The invariant: at most n nodes have begun.
 use Prim.Native.Nat.{◌-◌}
 use mathlib.Core.Path.{refl, sym, ◌∙◌}
 use mathlib.Core.List.{List}
@@ -12,8 +12,8 @@ use Rattle.names.specs.Answers.{Accepted, tale_said}
 use Rattle.names.proofs.Halfway.{Halfway, all_told, newly, halfway-start, onwards}
 use Rattle.names.proofs.Walks.{further}
 use Rattle.names.proofs.SearchNode.{Before, no_node, the-node, other-node, no-new-node}
-use Rattle.names.proofs.scan.node.Statement.{statement}
-use Rattle.names.proofs.scan.node.Tie as tie
+use Rattle.names.proofs.in_text.node.Statement.{statement}
+use Rattle.names.proofs.in_text.node.Tie as tie
 
 abbrev invariant-loop : tie.invariant-loop
 invariant-loop text owner n lists₀ w₀ lists w =

@@ -1,11 +1,11 @@
--- `names::scan::is_called` meets its contract: by its tests.
+-- `names::in_text::is_called` meets its contract: by its tests.
 use borrow.Author.Tests.{eq-eqb, ne_eqb}
 use mathlib.Core.Path.{◌∙◌}
 use Rattle.recognise.specs.Hears.{piece}
 use Rattle.names.specs.Seek.{is_called}
 use borrow.Author.Rules.{rules}
-use Rattle.names.proofs.scan.is_called.Statement.{statement}
-use Rattle.names.proofs.scan.is_called.Tie as tie
+use Rattle.names.proofs.in_text.is_called.Statement.{statement}
+use Rattle.names.proofs.in_text.is_called.Tie as tie
 
 returns : tie.Need-returns
 unfolding is_called piece

@@ -1,4 +1,4 @@
--- `names::scan::find` meets its contract. The invariant: as many of the sort as are counted have been told, and none of them is called so.
+-- `names::in_text::find` meets its contract. The invariant: as many of the sort as are counted have been told, and none of them is called so.
 use Rattle.names.proofs.GoingUp.{small-nowhere, small_at}
 use Prim.Native.Nat.{◌≤◌, ◌-◌}
 use mathlib.Core.Path.{refl, ap, sym, ◌∙◌}
@@ -14,8 +14,8 @@ use Rattle.names.specs.Answers.{Accepted, found_of}
 use Rattle.names.proofs.Halfway.{Halfway, all_told, newly, halfway-start, onwards}
 use Rattle.names.proofs.Walks.{further}
 use Rattle.names.proofs.Search.{Seeking, nothing-told, hit, miss, pass}
-use Rattle.names.proofs.scan.find.Statement.{statement}
-use Rattle.names.proofs.scan.find.Tie as tie
+use Rattle.names.proofs.in_text.find.Statement.{statement}
+use Rattle.names.proofs.in_text.find.Tie as tie
 
 abbrev invariant-loop : tie.invariant-loop
 invariant-loop text owner sort m x lists₀ w₀ count₀ lists w count =

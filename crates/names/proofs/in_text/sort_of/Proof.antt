@@ -1,8 +1,8 @@
--- `names::scan::sort_of` meets its contract: by its tests.
+-- `names::in_text::sort_of` meets its contract: by its tests.
 use borrow.Author.Tests.{eq-eqb, ne_eqb}
 use Rattle.names.specs.Walking as Walking
-use Rattle.names.proofs.scan.sort_of.Statement.{statement}
-use Rattle.names.proofs.scan.sort_of.Tie as tie
+use Rattle.names.proofs.in_text.sort_of.Statement.{statement}
+use Rattle.names.proofs.in_text.sort_of.Tie as tie
 
 returns : tie.Need-returns
 unfolding Walking.sort_no
