@@ -1,5 +1,5 @@
 -- A walk halfway through an accepted text: what has been told, and what is left of it.
-use Prim.Native.Nat.{ℕ, ◌<◌, ◌-◌}
+use Prim.Native.Nat.{ℕ, ◌<◌}
 use mathlib.Core.Path.{◌≡◌, refl, sym, ◌∙◌, subst}
 use mathlib.Core.List.{List, [], ◌∷◌}
 use mathlib.Core.Option.{some}

@@ -1,5 +1,5 @@
 -- What the code asks of a mention is whether it is in order.
-use Prim.Native.Nat.{ℕ, ◌+◌, ◌<◌, ◌≤◌, ◌-◌}
+use Prim.Native.Nat.{ℕ, ◌<◌, ◌≤◌, ◌-◌}
 use mathlib.Core.Path.{◌≡◌, refl, ap, sym, ◌∙◌, subst}
 use mathlib.Core.Bool.{true}
 use mathlib.Core.List.{List, [], ◌∷◌, ◌++◌, append_assoc}
@@ -8,7 +8,7 @@ use borrow.Author.Tests.{ne_eqb}
 use lib.Dec.{eqb}
 use lib.ListN.{length, get_or, length-append}
 use lib.Seq.{get_or-append_seam}
-use Rattle.plexil.specs.Lists.{Found, at, nowhere}
+use Rattle.plexil.specs.Lists.{Found, nowhere}
 use Rattle.grammar.specs.Spelling.{Token, Placed}
 use Rattle.grammar.specs.Table.{Said}
 use Rattle.notation.specs.Sayings.{Saying}

@@ -1,5 +1,5 @@
 -- An accepted text: its tale is the view of its draft, so that a name means in the draft what it means in the tale.
-use Prim.Native.Nat.{ℕ, zero, suc, ◌≤◌, ◌-◌}
+use Prim.Native.Nat.{ℕ, zero, suc, ◌≤◌}
 use mathlib.Core.Path.{◌≡◌, refl, ap, sym, ◌∙◌, subst}
 use mathlib.Core.Bool.{Bool, true, false, ◌&&◌}
 use mathlib.Core.List.{List, [], ◌∷◌, map}
