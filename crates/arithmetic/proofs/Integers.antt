@@ -33,7 +33,7 @@ abbrev pub seen : ℤ → ℤ
 seen x = to_z w64 (of_z w64 x)
 
 pub back : {x : ℤ} → mag x < 2 ^ 63 → seen x ≡ x
-back h = to_z-of_z (record { sfits = h })
+back h = to_z-of_z {w = w64} (record { sfits = h })
 
 pub seen-fits : {x : ℤ} → SFits w64 x → SFits w64 (seen x)
 seen-fits fx = subst (SFits w64) (sym (to_z-of_z fx)) fx

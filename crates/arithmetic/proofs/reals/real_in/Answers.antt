@@ -1,7 +1,6 @@
 -- A result that is not finite is Unknown.
 use mathlib.Core.Path.{sym, ◌∙◌}
 use Rattle.arithmetic.proofs.Finite.{real-yes, real-no}
-use borrow.Author.Rules.{rules}
 use Rattle.arithmetic.proofs.reals.real_in.Goals as goal
 
 pub returns-then-is_finite : goal.returns-then-is_finite
