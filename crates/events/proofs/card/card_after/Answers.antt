@@ -5,4 +5,4 @@ use Rattle.events.proofs.card.card_after.Goals as goal
 
 pub returns : goal.returns
 unfolding next_serial card_after
-returns c = ap (λ (n : ℕ). record { serial = n; phase = 0 }) c.wrapping_add_u32.ensures
+returns c = ap (λ (n : ℕ). record { serial = n; phase = 0 }) c.wrapping_add_u32.ensures.value
