@@ -3,15 +3,6 @@ use mathlib.Core.Path.{refl}
 use native.Mathlib.Omega.{arith}
 use Rattle.build.proofs.AttributeLaws.{told-condition, told-rank, told-variable, told-initial}
 use borrow.Author.Rules.{rules}
-use Rattle.build.proofs.attributes.attribute.Reads as reads
-use Rattle.build.proofs.attributes.attribute.Lts as lts
-use Rattle.build.proofs.attributes.expression.Reads as expression-reads
-use Rattle.build.proofs.attributes.initial.Reads as initial-reads
-use Rattle.build.proofs.attributes.rank.Reads as rank-reads
-use Rattle.build.proofs.entries.last.Reads as last-reads
-use Rattle.build.proofs.laying.add_variable.Reads as add-variable-reads
-use Rattle.build.proofs.laying.set_initial.Reads as set-initial-reads
-use Rattle.build.proofs.steps.next.Reads as next-reads
 use Rattle.build.proofs.attributes.attribute.Goals as goal
 
 -- src/attributes.rt:105:9

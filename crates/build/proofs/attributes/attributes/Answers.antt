@@ -1,21 +1,7 @@
 -- `build::attributes::attributes` meets its contract.
-use Prim.Native.Nat.{ℕ, ◌-◌, ◌≤◌}
-use mathlib.Core.Path.{◌≡◌, refl, ◌∙◌}
-use mathlib.Core.List.{List}
+use mathlib.Core.Path.{refl, ◌∙◌}
 use native.Mathlib.Omega.{arith}
-use borrow.Author.Rules.{rules}
-use lib.ListN.{length}
-use Rattle.notation.specs.Phrases.{Sayings}
-use Rattle.notation.specs.Draft.{Node, Draft}
-use Rattle.build.specs.Known.{tables}
-use Rattle.build.specs.Pendings.{places}
-use Rattle.build.specs.Laying.{Site}
-use Rattle.build.specs.Telling.{Telling}
 use Rattle.build.proofs.AttributeLaws.{told-on, told-first}
-use Rattle.build.proofs.attributes.attributes.Reads as reads
-use Rattle.build.proofs.attributes.attributes.Lts as lts
-use Rattle.build.proofs.attributes.attribute.Reads as attribute-reads
-use Rattle.build.proofs.steps.next.Reads as next-reads
 use Rattle.build.proofs.attributes.attributes.Goals as goal
 
 -- src/attributes.rt:180:5

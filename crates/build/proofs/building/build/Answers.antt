@@ -3,12 +3,6 @@ use mathlib.Core.Path.{ap, refl}
 use native.Mathlib.Omega.{arith}
 use Rattle.recognise.specs.Recognised.{accepted_as}
 use Rattle.build.proofs.BuildLaws.{limited, built-all}
-use borrow.Author.Rules.{rules}
-use Rattle.build.proofs.building.build.Reads as reads
-use Rattle.build.proofs.building.build.Lts as lts
-use Rattle.build.proofs.building.counted.Reads as counted-reads
-use Rattle.build.proofs.building.sections.Reads as sections-reads
-use Rattle.build.proofs.write.put_header.Reads as put-header-reads
 use Rattle.build.proofs.building.build.Goals as goal
 
 -- src/building.rt:82:9

@@ -3,12 +3,6 @@ use native.Mathlib.Omega.{arith}
 use lib.ListN.{get_or-replicate}
 use mathlib.Core.Path.{refl}
 use Rattle.build.proofs.BuildLaws.{made_all}
-use borrow.Author.Rules.{rules}
-use Rattle.build.proofs.building.sections.Reads as reads
-use Rattle.build.proofs.building.sections.Lts as lts
-use Rattle.build.proofs.declarations.declarations.Reads as declarations-reads
-use Rattle.build.proofs.nodes.node.Reads as node-reads
-use Rattle.names.proofs.fill_kinds.Reads as fill-kinds-reads
 use Rattle.build.proofs.building.sections.Goals as goal
 
 -- src/building.rt:27:1

@@ -1,19 +1,8 @@
-use Prim.Native.Nat.{◌-◌, ◌≤◌}
-use mathlib.Core.Path.{◌≡◌, refl}
-use mathlib.Core.Logic.{⊎_elim}
+use mathlib.Core.Path.{refl}
 use native.Mathlib.Omega.{arith}
-use borrow.Author.Rules.{rules}
-use lib.ListN.{length}
-use Rattle.notation.specs.Draft.{Draft}
-use Rattle.recognise.specs.Tape.{Tape}
-use Rattle.build.proofs.DeclarationLaws.{Declaring, begins, lookup-declared, command-declared, root-heard}
-use Rattle.build.proofs.declarations.declarations.Reads as reads
-use Rattle.build.proofs.declarations.declarations.Lts as lts
-use Rattle.build.proofs.declarations.lookup.Reads as lookup-reads
-use Rattle.build.proofs.declarations.number.Reads as number-reads
-use Rattle.build.proofs.steps.next.Reads as next-reads
-use Rattle.recognise.proofs.begin.Reads as begin-reads
+use Rattle.build.proofs.DeclarationLaws.{begins, lookup-declared, command-declared, root-heard}
 use Rattle.build.proofs.declarations.declarations.Goals as goal
+use Rattle.build.proofs.declarations.declarations.Goals.{then-says-gt2, else-says-gt2}
 
 -- src/declarations.rt:50:5
 pub loop-turns-init : goal.loop-turns-init
@@ -46,18 +35,18 @@ loop-turns-smaller c = omega arith
 -- src/declarations.rt:50:5
 pub loop-turns-preserved : goal.loop-turns-preserved
 loop-turns-preserved c = let x = c.loop-turns in
-    ⊎_elim
-    (λ w. (
-      omega (arith, x.invariant.0, w.7),
-      omega (arith, x.invariant.1, w.8),
-      λ whole k few low room t. lookup-declared _ whole _ _ _ _ _ _ _ _ _ (x.invariant.2 whole k few low room t) _ _ _ _ _ _ _ _ _ few low room w.0.taken (omega arith) refl w.3.ensures w.4 w.5 w.6 w.7 w.8 (c.next-at-in-loop-turns.ensures k),
-    ))
-    (λ w. (
-      omega (arith, x.invariant.0, w.7),
-      omega (arith, x.invariant.1, w.8),
-      λ whole k few low room t. command-declared _ whole _ _ _ _ _ _ _ _ _ (x.invariant.2 whole k few low room t) _ _ _ _ _ _ _ _ (omega (arith, w.0.left)) (w.1.ensures k) w.3.ensures w.4 w.5 w.6 w.7 w.8 (c.next-at-in-loop-turns.ensures k),
-    ))
-    c.if-says-gt2.branch
+    elim c.if-says-gt2.branch [
+      | then-says-gt2 w ↦ (
+        omega (arith, x.invariant.0, w.commands-is),
+        omega (arith, x.invariant.1, w.lookups-is),
+        λ whole k few low room t. lookup-declared _ whole _ _ _ _ _ _ _ _ _ (x.invariant.2 whole k few low room t) _ _ _ _ _ _ _ _ _ few low room w.if-says-gt2.true (omega arith) refl w.lookup.ensures w.image-is w.kind-is w.at-is w.commands-is w.lookups-is (c.next-at-in-loop-turns.ensures k),
+      )
+      | else-says-gt2 w ↦ (
+        omega (arith, x.invariant.0, w.commands-is),
+        omega (arith, x.invariant.1, w.lookups-is),
+        λ whole k few low room t. command-declared _ whole _ _ _ _ _ _ _ _ _ (x.invariant.2 whole k few low room t) _ _ _ _ _ _ _ _ (omega (arith, w.if-says-gt2.false)) (w.next-at-else-says-gt2.ensures k) w.number.ensures w.image-is w.kind-is w.at-is w.commands-is w.lookups-is (c.next-at-in-loop-turns.ensures k),
+      )
+    ]
 
 -- src/declarations.rt:38:1
 pub returns : goal.returns

@@ -1,18 +1,9 @@
 use Prim.Native.Nat.{◌-◌, ◌≤◌}
-use mathlib.Core.Path.{◌≡◌, refl}
-use mathlib.Core.Logic.{⊎_elim}
-use native.Mathlib.Omega.{arith}
-use borrow.Author.Rules.{rules}
+use mathlib.Core.Path.{◌≡◌}
 use lib.ListN.{length}
 use Rattle.notation.specs.Draft.{Draft}
 use Rattle.recognise.specs.Tape.{Tape}
-use Rattle.build.proofs.DeclarationLaws.{Declaring, begins, lookup-declared, command-declared, root-heard}
-use Rattle.build.proofs.declarations.declarations.Reads as reads
-use Rattle.build.proofs.declarations.declarations.Lts as lts
-use Rattle.build.proofs.declarations.lookup.Reads as lookup-reads
-use Rattle.build.proofs.declarations.number.Reads as number-reads
-use Rattle.build.proofs.steps.next.Reads as next-reads
-use Rattle.recognise.proofs.begin.Reads as begin-reads
+use Rattle.build.proofs.DeclarationLaws.{Declaring}
 use Rattle.build.proofs.declarations.declarations.Given as goal
 
 abbrev pub invariant-loop-turns : goal.invariant-loop-turns

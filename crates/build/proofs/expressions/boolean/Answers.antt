@@ -1,22 +1,7 @@
 -- `build::expressions::boolean` meets its contract. The invariant: an operand is due, and what is pending is kept.
-use Prim.Native.Nat.{ℕ, ◌-◌, ◌≤◌}
-use mathlib.Core.Path.{◌≡◌}
-use mathlib.Core.List.{[]}
 use native.Mathlib.Omega.{arith}
-use borrow.Author.Rules.{rules}
-use lib.ListN.{length}
-use Rattle.build.specs.Known.{Known, tables}
-use Rattle.build.specs.Standing.{Scene, Fair}
-use Rattle.build.specs.Pendings.{places, DueBy}
 use Rattle.build.proofs.PendingLaws.{before-opens}
 use Rattle.build.proofs.UnwindLaws.{due-by-on, first-length, due-first, operand_read, past-by-on, past-ends, past-pushed}
-use Rattle.build.proofs.expressions.boolean.Reads as reads
-use Rattle.build.proofs.expressions.boolean.Lts as lts
-use Rattle.build.proofs.entries.last.Reads as last-reads
-use Rattle.build.proofs.leaves.numeric.Reads as numeric-reads
-use Rattle.build.proofs.pending.follow.Reads as follow-reads
-use Rattle.build.proofs.pending.prefixes.Reads as prefixes-reads
-use Rattle.build.proofs.pending.push.Reads as push-reads
 use Rattle.build.proofs.expressions.boolean.Goals as goal
 
 -- src/expressions.rt:39:5

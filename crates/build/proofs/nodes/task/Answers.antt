@@ -1,14 +1,6 @@
 -- `build::nodes::task` meets its contract.
 use native.Mathlib.Omega.{arith}
 use Rattle.build.proofs.NodeLaws.{done-command, done-assignment}
-use borrow.Author.Rules.{rules}
-use Rattle.build.proofs.nodes.task.Reads as reads
-use Rattle.build.proofs.nodes.task.Lts as lts
-use Rattle.build.proofs.attributes.expression.Reads as expression-reads
-use Rattle.build.proofs.entries.last.Reads as last-reads
-use Rattle.build.proofs.known.command.Reads as command-reads
-use Rattle.build.proofs.known.variable.Reads as variable-reads
-use Rattle.build.proofs.laying.add_node.Reads as add-node-reads
 use Rattle.build.proofs.nodes.task.Goals as goal
 
 -- src/nodes.rt:48:9

@@ -1,20 +1,6 @@
 -- `build::pending::follow` meets its contract. The invariant: the parentheses that have been heard are closed.
-use Prim.Native.Nat.{ℕ, ◌-◌, ◌≤◌}
-use mathlib.Core.Path.{◌≡◌}
-use mathlib.Core.List.{[]}
 use native.Mathlib.Omega.{arith}
-use borrow.Author.Rules.{rules}
-use lib.ListN.{length}
-use Rattle.recognise.specs.Tape.{Tape}
-use Rattle.build.specs.Standing.{Scene, Fair}
-use Rattle.build.specs.Pendings.{places, PastBy}
 use Rattle.build.proofs.UnwindLaws.{past-by-on, past-lowered}
-use Rattle.build.proofs.pending.follow.Reads as reads
-use Rattle.build.proofs.pending.follow.Lts as lts
-use Rattle.build.proofs.entries.strength.Reads as strength-reads
-use Rattle.build.proofs.pending.lower.Reads as lower-reads
-use Rattle.build.proofs.pending.unwind.Reads as unwind-reads
-use Rattle.build.proofs.steps.next.Reads as next-reads
 use Rattle.build.proofs.pending.follow.Goals as goal
 
 -- src/pending.rt:208:5

@@ -1,20 +1,7 @@
 -- `build::pending::prefixes` meets its contract. The invariant: the parentheses and NOTs that have been heard are kept.
-use Prim.Native.Nat.{ℕ, ◌-◌, ◌≤◌}
-use mathlib.Core.Path.{◌≡◌}
-use mathlib.Core.List.{List, []}
 use native.Mathlib.Omega.{arith}
-use borrow.Author.Rules.{rules}
-use lib.ListN.{length}
-use Rattle.recognise.specs.Tape.{Tape}
-use Rattle.build.specs.Standing.{Scene, Fair}
 use borrow.Author.Tests.{not-true, not-false}
-use Rattle.build.specs.Pendings.{places, MetBy}
 use Rattle.build.proofs.UnwindLaws.{due-met, met-kept, met-by-on}
-use Rattle.build.proofs.pending.prefixes.Reads as reads
-use Rattle.build.proofs.pending.prefixes.Lts as lts
-use Rattle.build.proofs.pending.is_prefix.Reads as is-prefix-reads
-use Rattle.build.proofs.pending.keep.Reads as keep-reads
-use Rattle.build.proofs.steps.next.Reads as next-reads
 use Rattle.build.proofs.pending.prefixes.Goals as goal
 
 -- src/pending.rt:119:5

@@ -1,19 +1,12 @@
 -- `build::pending::unwind` meets its contract. The invariant: the operators above place t have ended.
-use Prim.Native.Nat.{ℕ, ◌-◌, ◌≤◌}
-use mathlib.Core.Path.{◌≡◌, refl}
+use Prim.Native.Nat.{ℕ, ◌≤◌}
+use mathlib.Core.Path.{◌≡◌}
 use mathlib.Core.List.{List, []}
-use native.Mathlib.Omega.{arith}
-use borrow.Author.Rules.{rules}
 use lib.ListN.{length}
 use Rattle.recognise.specs.declared.Cursor.{Cursor}
 use Rattle.build.specs.Standing.{Scene, Fair}
 use Rattle.build.specs.Operators.{Binds}
 use Rattle.build.specs.Pendings.{places, PastBy}
-use Rattle.build.proofs.UnwindLaws.{top-few, ended_at, held_none}
-use Rattle.build.proofs.pending.unwind.Reads as reads
-use Rattle.build.proofs.pending.unwind.Lts as lts
-use Rattle.build.proofs.pending.end_at.Reads as end-at-reads
-use Rattle.build.proofs.pending.is_held.Reads as is-held-reads
 use Rattle.build.proofs.pending.unwind.Given as goal
 
 abbrev pub invariant-loop-t : goal.invariant-loop-t
