@@ -1,17 +1,14 @@
 -- The lowest record that breaks rule 10.
-use Prim.Native.Nat.{◌-◌}
 use mathlib.Core.Path.{ap, refl, ◌∙◌}
 use borrow.Author.Rules.{rules}
 use native.Mathlib.Omega.{arith}
 use borrow.Author.Tests.{le-leb, lt-leb}
 use mathlib.Core.Bool.{not}
-use Rattle.plexil.specs.declared.Rule.TheVariants as rule
-use Rattle.admit.specs.Depth.{Filled}
 use Rattle.admit.proofs.Ordered.{few}
 use Rattle.admit.proofs.DepthTable.{filled-start, filled_next}
 use Rattle.plexil.specs.Scope.{shallow}
 use Rattle.plexil.specs.Check.{records, breaks, rule_on}
-use Rattle.plexil.proofs.LoopLaws.{Upto, upto-start, upto-found, upto_next, upto-end}
+use Rattle.plexil.proofs.LoopLaws.{upto-start, upto-found, upto_next, upto-end}
 use Rattle.admit.proofs.depth.broken_deep.Goals as goal
 
 pub loop-i-init : goal.loop-i-init
@@ -20,7 +17,7 @@ loop-i-init c = (upto-start _ _, filled-start _ _ refl)
 
 pub depth-d-requires : goal.depth-d-requires
 unfolding records breaks rule_on shallow
-depth-d-requires c = (c.requires, (rw c.expr_count-n.ensures at c.loop-i-test.true, c.loop-i.invariant.1))
+depth-d-requires c = record { passed = c.requires; e_bound = rw c.expr_count-n.ensures at c.loop-i-test.true; filled = c.loop-i.invariant.1 }
 
 pub returns-then-d-gt12 : goal.returns-then-d-gt12
 unfolding records breaks rule_on shallow

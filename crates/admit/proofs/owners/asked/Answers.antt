@@ -3,7 +3,6 @@ use Prim.Native.Nat.{ℕ, ◌+◌, ◌≤◌, ◌<◌}
 use mathlib.Core.Path.{◌≡◌, ap, subst, ◌∙◌}
 use mathlib.Core.List.{List}
 use native.Mathlib.Omega.{arith}
-use borrow.Author.Rules.{rules}
 use lib.ListN.{get_or}
 use Rattle.plexil.specs.Image.{Image, expr_count, owner, operator, operand_a, operand_b}
 use Rattle.admit.specs.Owners.{Asks, Asked, Ordered, Owned}
@@ -48,19 +47,16 @@ pub overflow_add-result : goal.overflow_add-result
 overflow_add-result c = omega (arith, owner-fits _ c.requires.ordered _ c.requires.e_bound c.operator-operator.ensures c.if-operator-eq1.true c.operand_a-a.ensures c.owner.ensures)
 
 pub returns-then-operator-eq1 : goal.returns-then-operator-eq1
-returns-then-operator-eq1 c = asks-variable _ c.requires.ordered _ c.requires.e_bound c.operator-operator.ensures c.if-operator-eq1.true _ (owner-read _ _ c.operand_a-a.ensures c.owner.ensures)
+returns-then-operator-eq1 c = let r = asks-variable _ c.requires.ordered _ c.requires.e_bound c.operator-operator.ensures c.if-operator-eq1.true _ (owner-read _ _ c.operand_a-a.ensures c.owner.ensures) in record { asked = r.0; asks = r.1 }
 
 pub returns-then-operator-lt6 : goal.returns-then-operator-lt6
-returns-then-operator-lt6 c = asks_nothing _ c.requires.ordered _ c.requires.e_bound c.operator-operator.ensures c.if-operator-lt6.true c.if-operator-eq1.false
+returns-then-operator-lt6 c = let r = asks_nothing _ c.requires.ordered _ c.requires.e_bound c.operator-operator.ensures c.if-operator-lt6.true c.if-operator-eq1.false in record { asked = r.0; asks = r.1 }
 
 pub bounds-owners-a : goal.bounds-owners-a
 bounds-owners-a c = first-within (c.requires.ordered, (c.requires.e_bound, c.requires.owned)) c.operator-operator.ensures c.operand_a-a.ensures c.if-operator-lt6.false
 
 pub returns-then-operator-eq6 : goal.returns-then-operator-eq6
-returns-then-operator-eq6 c = (
-  first-asked (c.requires.ordered, (c.requires.e_bound, c.requires.owned)) c.operator-operator.ensures c.operand_a-a.ensures c.if-operator-lt6.false,
-  asks-not _ c.requires.ordered _ c.requires.e_bound c.operator-operator.ensures c.if-operator-eq6.true _ (first-asks (c.requires.ordered, (c.requires.e_bound, c.requires.owned)) c.operator-operator.ensures c.operand_a-a.ensures c.if-operator-lt6.false),
-)
+returns-then-operator-eq6 c = record { asked = first-asked (c.requires.ordered, (c.requires.e_bound, c.requires.owned)) c.operator-operator.ensures c.operand_a-a.ensures c.if-operator-lt6.false; asks = asks-not _ c.requires.ordered _ c.requires.e_bound c.operator-operator.ensures c.if-operator-eq6.true _ (first-asks (c.requires.ordered, (c.requires.e_bound, c.requires.owned)) c.operator-operator.ensures c.operand_a-a.ensures c.if-operator-lt6.false) }
 
 pub bounds-owners-b : goal.bounds-owners-b
 bounds-owners-b c = second-within (c.requires.ordered, (c.requires.e_bound, c.requires.owned)) c.operator-operator.ensures c.operand_b-b.ensures c.if-operator-lt6.false c.if-operator-eq6.false

@@ -1,9 +1,8 @@
 -- The table is filled entry after entry.
-use Prim.Native.Nat.{ℕ, ◌-◌, ◌≤◌}
+use Prim.Native.Nat.{ℕ}
 use mathlib.Core.Path.{◌≡◌, refl, subst, ◌∙◌}
 use mathlib.Core.List.{List}
 use native.Mathlib.Omega.{arith}
-use borrow.Author.Rules.{rules}
 use Rattle.plexil.specs.Image.{Image, expr_count}
 use Rattle.admit.specs.Owners.{Owned}
 use Rattle.admit.proofs.OwnerLaws.{few-entries, owned-start, owned-next}
@@ -16,7 +15,7 @@ pub loop-e-init : goal.loop-e-init
 loop-e-init c = (omega arith, owned-start _ 0 0 _ refl)
 
 pub asked-o-requires : goal.asked-o-requires
-asked-o-requires c = (c.requires, (rw c.expr_count-n.ensures at c.loop-e-test.true, c.loop-e.invariant.1))
+asked-o-requires c = record { ordered = c.requires; e_bound = rw c.expr_count-n.ensures at c.loop-e-test.true; owned = c.loop-e.invariant.1 }
 
 pub bounds-owners-e : goal.bounds-owners-e
 bounds-owners-e c = omega (arith, few-entries _ c.requires, c.expr_count-n.ensures, c.loop-e-test.true)

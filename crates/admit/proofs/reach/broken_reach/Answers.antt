@@ -1,11 +1,9 @@
 -- The lowest record that breaks rule 12.
-use Prim.Native.Nat.{◌-◌}
 use mathlib.Core.Path.{sym, ap, ◌∙◌}
 use mathlib.Core.Bool.{not}
 use native.Mathlib.Omega.{arith}
-use Rattle.plexil.specs.declared.Rule.TheVariants as rule
 use Rattle.plexil.specs.Check.{records, breaks, rule_on}
-use Rattle.plexil.proofs.LoopLaws.{Upto, upto-start, upto-found, upto_next, upto-end}
+use Rattle.plexil.proofs.LoopLaws.{upto-start, upto-found, upto_next, upto-end}
 use Rattle.admit.proofs.reach.broken_reach.Goals as goal
 
 pub all_owners-owners-requires : goal.all_owners-owners-requires
