@@ -1,0 +1,24 @@
+-- After v variables the first v cells are made; what is left of the variables falls.
+use Prim.Native.Nat.{ℕ}
+use native.Mathlib.Omega.{arith}
+use mathlib.Core.Path.{sym, ap}
+use lib.ListN.{length-replicate}
+use Rattle.plexil.specs.declared.Cell.{Cell}
+use Rattle.plexil.proofs.RenewLaws.{renew-none, stored}
+use Rattle.places.proofs.FreshLaws.{all_made}
+use Rattle.places.proofs.fresh.fresh_state.Goals as goal
+
+pub loop-v-init : goal.loop-v-init
+loop-v-init c = (omega arith, c.var_count-n.ensures, omega arith, sym (renew-none _ _), sym (renew-none _ _))
+
+pub loop-v-preserved : goal.loop-v-preserved
+loop-v-preserved c = (
+  omega arith,
+  c.loop-v.invariant.1,
+  c.loop-v.invariant.2,
+  stored _ _ _ _ c.loop-v.invariant.3 (omega (arith, length-replicate {A = ℕ} 128 0)) (ap (λ (x : Cell). x.tag) c.initial-c.ensures),
+  stored _ _ _ _ c.loop-v.invariant.4 (omega (arith, length-replicate {A = ℕ} 128 0)) (ap (λ (x : Cell). x.bits) c.initial-c.ensures),
+)
+
+pub returns : goal.returns
+returns c = all_made _ (omega arith) c.loop-v.invariant.3 c.loop-v.invariant.4
