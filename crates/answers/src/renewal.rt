@@ -13,7 +13,7 @@ use super::flags::is_touched;
 use plexil::Cell;
 
 // An entry's cell, and whether it differs from the one before.
-#[derive(Drop)]
+#[derive(Clone, Copy)]
 pub struct Renewed {
     pub cell: Cell,
     pub changed: u8,

@@ -4,7 +4,7 @@ ghost use Rattle.atomic.specs.Children.{Answered};
 use super::statuses::{is_finished, is_resting};
 use places::status_at;
 
-#[derive(Drop)]
+#[derive(Clone, Copy)]
 pub struct ChildTests {
     pub finished: [bool; 256],
     pub resting: [bool; 256],

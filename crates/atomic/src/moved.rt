@@ -27,7 +27,7 @@ fn mark_by(mk: &[u8], i: u16, a: Status) -> u8
 }
 
 // A node's outcome and failure.
-#[derive(Drop)]
+#[derive(Clone, Copy)]
 pub struct Ending {
     pub outcome: u8,
     pub failure: u8,

@@ -14,7 +14,7 @@ use recognise::Cursor;
 use words::number_of;
 
 // The cursor, which has heard the next saying; how many entries and variables there are, and the node's priority.
-#[derive(Drop)]
+#[derive(Clone, Copy)]
 pub struct Described {
     pub at: Cursor,
     pub entries: usize,

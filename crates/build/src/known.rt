@@ -7,7 +7,7 @@ use names::{
 use recognise::Cursor;
 
 // A declaration's number and kind.
-#[derive(Drop)]
+#[derive(Clone, Copy)]
 pub struct Meaning {
     pub number: usize,
     pub kind: usize,

@@ -12,7 +12,7 @@ use names::Told;
 use recognise::Cursor;
 
 // Where a reader of nodes stands, and how many nodes, entries and variables there are.
-#[derive(Drop)]
+#[derive(Clone, Copy)]
 pub struct Course {
     pub at: Cursor,
     pub nodes: usize,

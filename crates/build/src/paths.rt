@@ -8,7 +8,7 @@ use names::{NameFound, Told, child_of, node_up};
 use recognise::Cursor;
 
 // A question that has been heard, and the number of the node that it is about.
-#[derive(Drop)]
+#[derive(Clone, Copy)]
 pub struct Question {
     pub at: Cursor,
     pub number: usize,

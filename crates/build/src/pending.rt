@@ -7,7 +7,7 @@ use super::steps::next;
 use recognise::Cursor;
 
 // Where a reader stands, how many operators are kept, and how many entries there are.
-#[derive(Drop)]
+#[derive(Clone, Copy)]
 pub struct Stand {
     pub at: Cursor,
     pub top: usize,
@@ -15,7 +15,7 @@ pub struct Stand {
 }
 
 // How many operators are kept, and how many entries there are.
-#[derive(Drop)]
+#[derive(Clone, Copy)]
 pub struct Unwound {
     pub top: usize,
     pub entries: usize,

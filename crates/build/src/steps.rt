@@ -5,7 +5,7 @@ ghost use Rattle.build.specs.Steps.{Stepped};
 use recognise::Cursor;
 
 // Where a reader of expressions stands, and how many entries there are.
-#[derive(Drop)]
+#[derive(Clone, Copy)]
 pub struct Progress {
     pub at: Cursor,
     pub entries: usize,

@@ -1,5 +1,5 @@
 // The lowest entry that breaks a rule, if one does.
-#[derive(Drop)]
+#[derive(Clone, Copy)]
 pub(crate) enum Found {
     At(u16),
     Nowhere,

@@ -9,7 +9,7 @@ use super::vars::{initial_bits, owner, var_kind, var_known};
 use plexil::Condition;
 
 // form: the node's type, 0 list, 1 command, 2 assignment.
-#[derive(Drop)]
+#[derive(Clone, Copy)]
 pub struct NodeRecord {
     pub parent: u16,
     pub form: u8,
@@ -25,7 +25,7 @@ pub struct NodeRecord {
     pub value: u16,
 }
 
-#[derive(Drop)]
+#[derive(Clone, Copy)]
 pub struct ExprRecord {
     pub operator: u8,
     pub kind: u8,
@@ -34,7 +34,7 @@ pub struct ExprRecord {
     pub constant: u64,
 }
 
-#[derive(Drop)]
+#[derive(Clone, Copy)]
 pub struct VarRecord {
     pub kind: u8,
     pub known: u8,
@@ -42,7 +42,7 @@ pub struct VarRecord {
     pub initial: u64,
 }
 
-#[derive(Drop)]
+#[derive(Clone, Copy)]
 pub struct LookRecord {
     pub kind: u8,
 }

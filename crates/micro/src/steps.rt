@@ -9,7 +9,7 @@ use plexil::State;
 use visit::walk;
 
 // Quiet: no rule applies. NoRoom: the words do not fit, and nothing was done.
-#[derive(Drop)]
+#[derive(Clone, Copy)]
 pub enum StepEnd {
     Quiet,
     NoRoom,

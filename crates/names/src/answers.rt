@@ -4,14 +4,14 @@ ghost use Rattle.plexil.specs.Lists.{at, nowhere};
 ghost use Rattle.names.specs.Answers.{found_of};
 
 // The number of a declaration, or a place in the text, where there is one.
-#[derive(Drop)]
+#[derive(Clone, Copy)]
 pub struct NameFound {
     pub found: bool,
     pub place: usize,
 }
 
 // Where a node's name stands in the text, and its owner: one more than its parent, 0 at the root.
-#[derive(Drop)]
+#[derive(Clone, Copy)]
 pub struct NodeFound {
     pub from: usize,
     pub to: usize,

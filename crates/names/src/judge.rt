@@ -20,7 +20,7 @@ use super::walk::{Walk, here};
 
 // A held name or path: 0 none, 1 a name, 2 a path that has been followed. Its first name stands from `from` to `to`; `node` is where it leads,
 // if it is not lost; it is lost at the place of the first part that is not found.
-#[derive(Drop)]
+#[derive(Clone, Copy)]
 pub struct Path {
     pub from: usize,
     pub to: usize,

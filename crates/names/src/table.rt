@@ -9,7 +9,7 @@ use super::answers::{NameFound, NodeFound, found_at, found_nowhere};
 use super::scan::is_called;
 
 // How many rows each sort has; `whole` where the tables have every declaration of the text.
-#[derive(Drop)]
+#[derive(Clone, Copy)]
 pub struct Told {
     pub whole: bool,
     pub commands: usize,

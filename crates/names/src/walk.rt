@@ -6,7 +6,7 @@ use super::roles::role_of;
 use recognise::Cursor;
 
 // The cursor; the role of what it heard last, where its name stands and its owner; how many nodes have begun and how many lists are open.
-#[derive(Drop)]
+#[derive(Clone, Copy)]
 pub struct Walk {
     pub cursor: Cursor,
     pub from: usize,

@@ -12,7 +12,7 @@ use Rattle.plexil.specs.Assemble.{bytes, words16, join}
 use Rattle.notation.specs.Sayings.{boolean}
 use Rattle.notation.specs.Draft.{Variable, Node, Body, Entry, Draft}
 use Rattle.notation.specs.Hearing.{no_conditions}
-use Rattle.notation.specs.Mapping.{entry_bytes, all_entries, node_bytes, all_nodes, all_variables, all_lookups, image_of, kind_code}
+use Rattle.notation.specs.Mapping.{entry_bytes, kind_of_entry, all_entries, node_bytes, all_nodes, all_variables, all_lookups, image_of, kind_code}
 use Rattle.notation.proofs.Seven.{Seven}
 use Rattle.notation.proofs.ImageLength.{Sized, length-words, length-join, nodes-sized, entries-sized, variables-sized, nodes-many, entries-many, variables-many}
 use Rattle.notation.proofs.Parts.{no_entry}
@@ -62,7 +62,7 @@ pub entry-record : (d : Draft) (ks : List ℕ) (es : List Entry) (e : ℕ) → e
 unfolding all_entries
 entry-record d ks [] e l = absurd (omega arith)
 entry-record d ks (x ∷ es) zero l = (ks, refl)
-entry-record d ks (x ∷ es) (suc e) l = entry-record d _ es e (omega arith)
+entry-record d ks (x ∷ es) (suc e) l = entry-record d (ks ++ kind_of_entry d ks x ∷ []) es e (omega arith)
 
 pub variable-record : (vs : List Variable) (v : ℕ) → v < length vs
     → get_or (all_variables vs) v [] ≡ Assemble.variable (kind_code (get_or vs v no_variable).kind) (get_or vs v no_variable).known (get_or vs v no_variable).owner (get_or vs v no_variable).initial

@@ -6,8 +6,7 @@ use Rattle.grammar.specs.Spelling as Spelling
 use Rattle.grammar.specs.Leads as Leads
 use Rattle.grammar.specs.Leads.{name}
 use Rattle.grammar.specs.Table.{Item, sort, pick}
-use Rattle.grammar.proofs.Bools.{both}
-use Rattle.notation.specs.Sayings.{boolean, integer, float, mentions, reads, asks, operates, closes, ends}
+use Rattle.notation.specs.Sayings.{boolean, integer, float, mentions, reads, operates, closes, ends}
 use Rattle.notation.specs.Rows.{Close, semicolon, bracket, Sort, operand, operator, after_name, lookup_used, ◌↣◌says◌}
 use Rattle.notation.specs.Rows as Table
 use Rattle.notation.specs.Draft.{Binary, or, and, eq, lt, le, add, sub, mul}

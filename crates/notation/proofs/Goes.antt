@@ -6,7 +6,7 @@ use mathlib.Core.List.{List, [], ◌∷◌, ◌++◌, Memᴰ}
 use mathlib.Core.Option.{Option, none, some}
 use lib.ListN.{length}
 use Rattle.grammar.specs.Spelling.{Token, Placed, between, after, shut, feed, begin, given, pending, is_blank, whole, apart, all_end_at, placed_from, placed}
-use Rattle.grammar.specs.Leads.{accepts, bytes}
+use Rattle.grammar.specs.Leads.{accepts}
 use Rattle.grammar.specs.Table.{Item, sort, Row, pick, Said, rows_of, on_said, said, text_says}
 use Rattle.grammar.proofs.Parts.{ends-at-blank}
 use Rattle.grammar.proofs.Picks.{pick-whole}

@@ -1,7 +1,7 @@
 -- The image of what is said has the mapping's length: each record has its length, since each node always has seven conditions.
 use Prim.Native.Nat.{ℕ, zero, suc, ◌+◌, ◌*◌}
 use mathlib.Core.Path.{◌≡◌, refl, sym, ◌∙◌, ap}
-use mathlib.Core.List.{List, [], ◌∷◌}
+use mathlib.Core.List.{List, [], ◌∷◌, ◌++◌}
 use native.Mathlib.Omega.{arith}
 use native.Mathlib.Nat.{mul-zero, mul-suc, add_comm}
 use lib.ListN.{length, length-append}
@@ -9,7 +9,7 @@ use Rattle.plexil.specs.Assemble as Assemble
 use Rattle.plexil.specs.Assemble.{bytes, words16, join}
 use Rattle.notation.specs.Draft.{Variable, Lookup, Node, Body, list, assignment, Entry, constant, unknown_of, about, negation, two, Draft, blank}
 use Rattle.notation.specs.Hearing.{draft_of}
-use Rattle.notation.specs.Mapping.{entry_bytes, all_entries, node_bytes, all_nodes, all_variables, all_lookups, image_of, image_length}
+use Rattle.notation.specs.Mapping.{entry_bytes, kind_of_entry, all_entries, node_bytes, all_nodes, all_variables, all_lookups, image_of, image_length}
 use Rattle.notation.specs.Promises.{ImageLength}
 use Rattle.notation.proofs.Seven.{Seven, seven-all}
 
@@ -55,7 +55,7 @@ nodes-sized d i (n ∷ ns) h = (one n.body, nodes-sized d (suc i) ns h.1)
 pub entries-sized : (d : Draft) (ks : List ℕ) (es : List Entry) → Sized 16 (all_entries d ks es)
 unfolding all_entries entry_bytes
 entries-sized d ks [] = tt
-entries-sized d ks (e ∷ es) = (one e, entries-sized d _ es)
+entries-sized d ks (e ∷ es) = (one e, entries-sized d (ks ++ kind_of_entry d ks e ∷ []) es)
   where
     one : (e : Entry) → length (entry_bytes d ks e) ≡ 16
     one (constant k c) = length-expr _ _ _ _ _
@@ -85,7 +85,7 @@ nodes-many d i (n ∷ ns) = ap suc (nodes-many d (suc i) ns)
 pub entries-many : (d : Draft) (ks : List ℕ) (es : List Entry) → length (all_entries d ks es) ≡ length es
 unfolding all_entries
 entries-many d ks [] = refl
-entries-many d ks (e ∷ es) = ap suc (entries-many d _ es)
+entries-many d ks (e ∷ es) = ap suc (entries-many d (ks ++ kind_of_entry d ks e ∷ []) es)
 
 pub variables-many : (vs : List Variable) → length (all_variables vs) ≡ length vs
 unfolding all_variables

@@ -9,7 +9,7 @@ use Rattle.grammar.specs.Spelling.{Token, Placed}
 use Rattle.grammar.specs.Leads.{value_from}
 use Rattle.grammar.specs.Table.{Said}
 use Rattle.notation.specs.Sayings.{Saying, declares_command, numbers_command, declares_lookup, opens_list, closes_list, calls, assigns, conditions, ranks, declares_variable, ends}
-use Rattle.notation.specs.Draft.{Entry, Draft, Node, Body, Slot, blank, with_slot, with_body, with_priority}
+use Rattle.notation.specs.Draft.{Entry, Draft, Body, Slot, blank, with_slot, with_body, with_priority}
 use Rattle.notation.specs.Hearing.{at_last, last, here, no_conditions, end_operators, settled, into_slot, on_node, mentioning, next_node, on_variable, hear, hear_all}
 use Rattle.notation.specs.Phrases as Phrases
 use Rattle.notation.specs.Phrases.{Sayings, Expression, Initial, Opening, Attributes, Nodes, Plan}

@@ -103,14 +103,14 @@ of-priority m = go (met 7 m)
 
 pub of-onces : (m : List ℕ) → Each (sort (attributes m)) (onces m)
 of-onces m =
-    each_append _ (once m 0 (condition m 0 "SkipCondition")) _ (of-condition m 0 "SkipCondition")
-    (each_append _ (once m 1 (condition m 1 "StartCondition")) _ (of-condition m 1 "StartCondition")
-    (each_append _ (once m 2 (condition m 2 "PreCondition")) _ (of-condition m 2 "PreCondition")
-    (each_append _ (once m 3 (condition m 3 "InvariantCondition")) _ (of-condition m 3 "InvariantCondition")
-    (each_append _ (once m 4 (condition m 4 "EndCondition")) _ (of-condition m 4 "EndCondition")
-    (each_append _ (once m 5 (condition m 5 "PostCondition")) _ (of-condition m 5 "PostCondition")
-    (each_append _ (once m 6 (condition m 6 "RepeatCondition")) _ (of-condition m 6 "RepeatCondition")
-    (each_append _ (once m 6 (condition m 6 "RepeatUntilCondition")) _ (of-condition m 6 "RepeatUntilCondition") (of-priority m))))))))
+    each_append (sort (attributes m)) (once m 0 (condition m 0 "SkipCondition")) _ (of-condition m 0 "SkipCondition")
+    (each_append (sort (attributes m)) (once m 1 (condition m 1 "StartCondition")) _ (of-condition m 1 "StartCondition")
+    (each_append (sort (attributes m)) (once m 2 (condition m 2 "PreCondition")) _ (of-condition m 2 "PreCondition")
+    (each_append (sort (attributes m)) (once m 3 (condition m 3 "InvariantCondition")) _ (of-condition m 3 "InvariantCondition")
+    (each_append (sort (attributes m)) (once m 4 (condition m 4 "EndCondition")) _ (of-condition m 4 "EndCondition")
+    (each_append (sort (attributes m)) (once m 5 (condition m 5 "PostCondition")) _ (of-condition m 5 "PostCondition")
+    (each_append (sort (attributes m)) (once m 6 (condition m 6 "RepeatCondition")) _ (of-condition m 6 "RepeatCondition")
+    (each_append (sort (attributes m)) (once m 6 (condition m 6 "RepeatUntilCondition")) _ (of-condition m 6 "RepeatUntilCondition") (of-priority m))))))))
 
 pub of-attributes : (m : List ℕ) → Each (sort (attributes m)) (rows (attributes m))
 unfolding rows spoken is_silent

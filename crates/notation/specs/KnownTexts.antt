@@ -2,7 +2,7 @@
 use Rattle.std.specs.Prelude.{ℕ, Bool, true, false, List, [], ◌∷◌, replicate, take, eqb}
 use Prim.Native.String.{String}
 use Rattle.grammar.specs.Leads.{bytes, same}
-use Rattle.plexil.specs.Lists.{every, some}
+use Rattle.plexil.specs.Lists.{every}
 use Rattle.plexil.specs.Play.{Case, all_pass}
 use Rattle.plexil.specs.KnownEnds as Known
 use Rattle.notation.specs.Reading.{Reading, read_reply}

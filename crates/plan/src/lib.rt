@@ -9,13 +9,13 @@ use plexil::{Counts, Verdict};
 pub use records::{ExpressionAt, LookupAt, NodeAt, VariableAt};
 
 // The counts are those of the check: 0 where the image is refused.
-#[derive(Drop)]
+#[derive(Clone, Copy)]
 pub struct Plan<'a> {
     pub image: &'a [u8],
     pub counts: Counts,
 }
 
-#[derive(Drop)]
+#[derive(Clone, Copy)]
 pub struct Opened<'a> {
     pub plan: Plan<'a>,
     pub verdict: Verdict,

@@ -4,25 +4,25 @@ ghost use Rattle.plan.specs.View.{node_at_of, expression_at_of, variable_at_of, 
 
 use image::{ExprRecord, LookRecord, NodeRecord, VarRecord};
 
-#[derive(Drop)]
+#[derive(Clone, Copy)]
 pub enum NodeAt {
     Outside,
     Is(NodeRecord),
 }
 
-#[derive(Drop)]
+#[derive(Clone, Copy)]
 pub enum ExpressionAt {
     Outside,
     Is(ExprRecord),
 }
 
-#[derive(Drop)]
+#[derive(Clone, Copy)]
 pub enum VariableAt {
     Outside,
     Is(VarRecord),
 }
 
-#[derive(Drop)]
+#[derive(Clone, Copy)]
 pub enum LookupAt {
     Outside,
     Is(LookRecord),

@@ -1,9 +1,8 @@
 // The types that the code and the definitions of document 01 share. No function: what they mean is in specs/.
 #![tactic(auto)]
 
-
 // A worked-out expression: a known value carries its kind. Clash: a value of another kind was met.
-#[derive(Drop)]
+#[derive(Clone, Copy)]
 pub enum Worked {
     Clash,
     Unknown,
@@ -13,7 +12,7 @@ pub enum Worked {
 }
 
 // The two operands of EQ to MUL. UnknownBool: one is Unknown, the other a known Bool.
-#[derive(Drop)]
+#[derive(Clone, Copy)]
 pub enum Pair {
     Clash,
     Unknown,
@@ -24,7 +23,7 @@ pub enum Pair {
 }
 
 // A kept value: the tag is 0 for Unknown, else one more than the kind; Unknown has bits 0.
-#[derive(Drop)]
+#[derive(Clone, Copy)]
 pub struct Cell {
     pub tag: u8,
     pub bits: u64,
@@ -46,7 +45,7 @@ pub struct State {
 
 // The turn card: the next serial, and the phase, 0 Running or 1 Quiet.
 #[repr(C)]
-#[derive(Drop)]
+#[derive(Clone, Copy)]
 pub struct Card {
     pub serial: u32,
     pub phase: u32,
@@ -54,7 +53,7 @@ pub struct Card {
 
 // How many nodes, expressions, variables and lookups an admitted plan has.
 #[repr(C)]
-#[derive(Drop)]
+#[derive(Clone, Copy)]
 pub struct Counts {
     pub nodes: u16,
     pub exprs: u16,
@@ -63,7 +62,7 @@ pub struct Counts {
 }
 
 // The status of a node, in the order of its codes.
-#[derive(Drop)]
+#[derive(Clone, Copy)]
 pub enum Status {
     Inactive,
     Waiting,
@@ -75,7 +74,7 @@ pub enum Status {
 }
 
 // The conditions of a node, in record order.
-#[derive(Drop)]
+#[derive(Clone, Copy)]
 pub enum Condition {
     Skip,
     Start,
@@ -87,7 +86,7 @@ pub enum Condition {
 }
 
 // What a rule makes of outcome and failure. Failed has the outcome and the failure; Judged: IterationEnded through End or Finishing.
-#[derive(Drop)]
+#[derive(Clone, Copy)]
 pub enum Effect {
     Kept,
     Cleared,
@@ -97,14 +96,14 @@ pub enum Effect {
 }
 
 // What a node does in a micro step. Stay: no rule applies.
-#[derive(Drop)]
+#[derive(Clone, Copy)]
 pub enum Move {
     Stay,
     Go(Status, Effect),
 }
 
 // What stands at a node's place.
-#[derive(Drop)]
+#[derive(Clone, Copy)]
 pub struct Place {
     pub status: u8,
     pub outcome: u8,
@@ -113,7 +112,7 @@ pub struct Place {
 }
 
 // The rules of a plan image, in the order of their refusal numbers.
-#[derive(Drop)]
+#[derive(Clone, Copy)]
 pub enum Rule {
     Short,
     Edition,
@@ -130,14 +129,14 @@ pub enum Rule {
 }
 
 // The check's verdict: the lowest broken rule, with the lowest record number that breaks it.
-#[derive(Drop)]
+#[derive(Clone, Copy)]
 pub enum Verdict {
     Admitted,
     Refused(Rule, u16),
 }
 
 // The reply of the check: the counts are 0 where the image is refused.
-#[derive(Drop)]
+#[derive(Clone, Copy)]
 pub struct Checked {
     pub verdict: Verdict,
     pub counts: Counts,
@@ -152,7 +151,7 @@ pub struct Started {
 }
 
 // How a run or a turn ended. Busy to NotAwaited are a turn's alone; Entry, Twice and NotAwaited name the event's entry.
-#[derive(Drop)]
+#[derive(Clone, Copy)]
 pub enum RunAnswer {
     Refused(Rule, u16),
     State,
@@ -169,7 +168,7 @@ pub enum RunAnswer {
 }
 
 // What the tests before a run or a turn answer: what is given is accepted, or the first broken one refuses.
-#[derive(Drop)]
+#[derive(Clone, Copy)]
 pub enum Tested {
     Accepted,
     Refused(RunAnswer),

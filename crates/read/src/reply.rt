@@ -3,7 +3,7 @@ ghost use Rattle.std.specs.Prelude.{◌≡◌};
 ghost use Rattle.read.specs.Reply.{refused_reply, made_reply};
 
 // number: the refusal, 0 where the text is accepted; place: the place in the text or the record that it names; made: the image's length.
-#[derive(Drop)]
+#[derive(Clone, Copy)]
 pub struct ReadReply {
     pub number: u32,
     pub place: usize,

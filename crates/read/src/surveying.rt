@@ -16,7 +16,7 @@ use names::Told;
 use recognise::Recognised;
 
 // What a look over a text has found: the reply so far, its counts, and the counts of its tables.
-#[derive(Drop)]
+#[derive(Clone, Copy)]
 pub struct Overview {
     pub reply: ReadReply,
     pub seen: Recognised,

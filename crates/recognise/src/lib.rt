@@ -17,7 +17,7 @@ pub use tape::{begin, next};
 
 // What is still to come: the position, a mark for each attribute that the node has, what follows the expression at hand, its open
 // parentheses, and the open lists.
-#[derive(Drop)]
+#[derive(Clone, Copy)]
 pub struct Ahead {
     pub at: u8,
     pub met: [u8; 8],
@@ -27,7 +27,7 @@ pub struct Ahead {
 }
 
 // A row: what it does to the counts, the number of what its token says, and the position that follows.
-#[derive(Drop)]
+#[derive(Clone, Copy)]
 pub struct Move {
     pub effect: u8,
     pub says: u8,
@@ -35,7 +35,7 @@ pub struct Move {
 }
 
 // Whether a token can come, what it says, and what is to come after it.
-#[derive(Drop)]
+#[derive(Clone, Copy)]
 pub struct Stepped {
     pub next: Ahead,
     pub ok: bool,
@@ -43,7 +43,7 @@ pub struct Stepped {
 }
 
 // The next token of a text: see specs/Taking.
-#[derive(Drop)]
+#[derive(Clone, Copy)]
 pub struct Taken {
     pub from: usize,
     pub to: usize,
@@ -54,7 +54,7 @@ pub struct Taken {
 
 // The counts of a plan while its text is followed: what has been declared and begun, the entries that are made or pending, the open lists,
 // whether a name is held that may be a variable's, and whether a node lies too deep, and where the first such begins.
-#[derive(Drop)]
+#[derive(Clone, Copy)]
 pub struct Counts {
     pub nodes: usize,
     pub entries: usize,
@@ -68,7 +68,7 @@ pub struct Counts {
 }
 
 // What is told of a text before it is read.
-#[derive(Drop)]
+#[derive(Clone, Copy)]
 pub struct Recognised {
     pub accepted: bool,
     pub reach: usize,
@@ -83,7 +83,7 @@ pub struct Recognised {
 
 // A place, the last token that said something with the number of what it said, and what is still to come. Where the tape has the text, with
 // so many sayings, the place is the number of those that were heard; where it has not, `sayings` is 0, and the place is one in the text.
-#[derive(Drop)]
+#[derive(Clone, Copy)]
 pub struct Cursor {
     pub at: usize,
     pub from: usize,

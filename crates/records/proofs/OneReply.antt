@@ -1,5 +1,4 @@
 -- A search's contract permits one reply.
-use Prim.Native.Nat.{ℕ}
 use mathlib.Core.Path.{◌≡◌, refl, sym, ap, ◌∙◌}
 use Rattle.records.specs.declared.found.Found.{Found}
 use Rattle.records.specs.declared.found.Found.TheVariants as code

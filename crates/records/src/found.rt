@@ -1,5 +1,5 @@
 // The lowest record that breaks a rule, if one does.
-#[derive(Drop)]
+#[derive(Clone, Copy)]
 pub enum Found {
     At(u16),
     Nowhere,

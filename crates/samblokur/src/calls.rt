@@ -7,7 +7,7 @@ use super::reports::{Report, run_report, verdict_report};
 use plexil::{Card, Counts, State};
 
 // What a check leaves: the number it returns, the report and the counts.
-#[derive(Drop)]
+#[derive(Clone, Copy)]
 pub struct CheckExit {
     pub number: u32,
     pub report: Report,

@@ -7,7 +7,7 @@ use plexil::{RunAnswer, Verdict};
 
 // What a call tells its host beside what it changes. ending: 0 refused; 1 Quiet, or an accepted check or fresh start; 2 Spent.
 #[repr(C)]
-#[derive(Drop)]
+#[derive(Clone, Copy)]
 pub struct Report {
     pub number: u32,
     pub record: u32,

@@ -7,7 +7,7 @@ ghost use Rattle.scan.specs.Runs.{Skipped, Passed, passed_to};
 use super::bytes::is_blank;
 
 // A comment is passed, and the text goes on at `to`; or the text is broken there.
-#[derive(Drop)]
+#[derive(Clone, Copy)]
 pub struct Skip {
     pub broken: bool,
     pub to: usize,

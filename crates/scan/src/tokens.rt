@@ -9,7 +9,7 @@ use super::bytes::{is_digit, is_letter, is_number_byte, is_pair, is_word_byte};
 use super::comments::{skip_blanks, skip_comment};
 
 // kind 0: no token more; 1: a token, its bytes those from `from` up to `to`; 2: the text is broken, and nothing past `to` is viable.
-#[derive(Drop)]
+#[derive(Clone, Copy)]
 pub struct Token {
     pub kind: u8,
     pub from: usize,

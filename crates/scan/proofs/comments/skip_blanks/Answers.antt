@@ -10,10 +10,10 @@ loop-i-init c = (omega arith, refl)
 
 pub returns-then-not-is_blank : goal.returns-then-not-is_blank
 returns-then-not-is_blank c = record {
-      low = omega arith;
-      same = c.loop-i.invariant.1;
-      stops = λ h. sym c.is_blank.ensures ∙ not-true _ c.if-not-is_blank.true-raw;
-    }
+  low = omega arith;
+  same = c.loop-i.invariant.1;
+  stops = λ h. sym c.is_blank.ensures ∙ not-true _ c.if-not-is_blank.true-raw;
+}
 
 pub overflow_add-i : goal.overflow_add-i
 overflow_add-i c = omega arith
