@@ -35,7 +35,7 @@ use Rattle.names.specs.Kinds.{Kinded}
 use Rattle.names.specs.Tables.{base_of, count_of, TabledSort, Ready, Filled}
 use Rattle.names.specs.Tale.{list_of}
 use Rattle.names.specs.View.{of_lookup, of_variable}
-use Rattle.names.proofs.Told.{told}
+use Rattle.names.proofs.ToldLaws.{told}
 use Rattle.names.proofs.RowLaws.{rows-length}
 use Rattle.recognise.specs.Tape.{Tape}
 use Rattle.build.specs.declared.nodes.Course.{Course}

@@ -17,7 +17,7 @@ pub enum StepEnd {
 }
 
 // How a step ended, how many words it wrote, and the state then.
-#[derive(Drop)]
+#[derive(Clone, Copy)]
 pub struct Stepped {
     pub end: StepEnd,
     pub words: u16,

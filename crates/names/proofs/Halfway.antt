@@ -1,5 +1,5 @@
 -- A walk halfway through an accepted text: what has been told, and what is left of it.
-use Prim.Native.Nat.{ℕ, ◌<◌, ◌-◌}
+use Prim.Native.Nat.{ℕ, ◌<◌}
 use mathlib.Core.Path.{◌≡◌, refl, sym, ◌∙◌, subst}
 use mathlib.Core.List.{List, [], ◌∷◌}
 use mathlib.Core.Option.{some}
@@ -19,7 +19,7 @@ use Rattle.names.specs.Order.{Standing, declaring, after}
 use Rattle.names.specs.Seek.{Shallow}
 use Rattle.names.specs.Walking.{Follows, Tells, Walked, Started}
 use Rattle.names.specs.Answers.{Accepted, tale_said}
-use Rattle.names.proofs.Told.{told, shallow}
+use Rattle.names.proofs.ToldLaws.{told, shallow}
 use Rattle.names.proofs.Grown.{shallow-told}
 
 -- told so far is a tale and where it stands, with P

@@ -1,5 +1,5 @@
 -- What the code asks of a mention is whether it is in order.
-use Prim.Native.Nat.{ℕ, ◌+◌, ◌<◌, ◌≤◌, ◌-◌}
+use Prim.Native.Nat.{ℕ, ◌<◌, ◌≤◌, ◌-◌}
 use mathlib.Core.Path.{◌≡◌, refl, ap, sym, ◌∙◌, subst}
 use mathlib.Core.Bool.{true}
 use mathlib.Core.List.{List, [], ◌∷◌, ◌++◌, append_assoc}
@@ -8,7 +8,7 @@ use borrow.Author.Tests.{ne_eqb}
 use lib.Dec.{eqb}
 use lib.ListN.{length, get_or, length-append}
 use lib.Seq.{get_or-append_seam}
-use Rattle.plexil.specs.Lists.{Found, at, nowhere}
+use Rattle.plexil.specs.Lists.{Found, nowhere}
 use Rattle.grammar.specs.Spelling.{Token, Placed}
 use Rattle.grammar.specs.Table.{Said}
 use Rattle.notation.specs.Sayings.{Saying}
@@ -24,7 +24,7 @@ use Rattle.names.specs.Seek.{seek, nobody}
 use Rattle.names.specs.Walking.{nodes_no, sort_no, name_by}
 use Rattle.names.specs.Answers.{Accepted, tale_said, found_of}
 use Rattle.names.specs.Judging.{settled_by, new_of, unless_of, Hearing}
-use Rattle.names.proofs.Told.{told}
+use Rattle.names.proofs.ToldLaws.{told}
 use Rattle.names.proofs.Grown.{fourfold, declared_by, grows, lists-grow-all}
 use Rattle.names.proofs.Paths.{bad-one, found-same}
 use Rattle.names.proofs.Mentions.{mention_by, own_first, declared-mention, is_call, is-assign, is_read, is-mention, is-descend, is_ask, is-settle, mentions-none}

@@ -26,7 +26,7 @@ use Rattle.names.specs.Order.{Standing}
 use Rattle.names.specs.Answers.{Accepted, tale_said}
 use Rattle.names.specs.Kinds.{Kinded}
 use Rattle.names.proofs.Halfway.{Newly}
-use Rattle.names.proofs.Told.{told}
+use Rattle.names.proofs.ToldLaws.{told}
 use Rattle.names.proofs.ViewLaws.{length-snoc, get_d-snoc-other, get_d-snoc-last}
 
 -- ---- a variable's kind is the number of its saying less 20

@@ -2,7 +2,7 @@ pub mod Ordered
 pub mod ViewLaws
 pub mod Viewed
 pub mod Stepped
-pub mod Told
+pub mod ToldLaws
 pub mod WalkLaws
 pub mod Walks
 pub mod Grown

@@ -1,5 +1,5 @@
 -- A saying's mentions in an accepted text: a declaration is the first of its name, by what it tells.
-use Prim.Native.Nat.{ℕ, zero, suc, ◌+◌, ◌<◌, ◌≤◌, ◌-◌}
+use Prim.Native.Nat.{ℕ, zero, suc, ◌<◌, ◌≤◌}
 use mathlib.Core.Path.{◌≡◌, refl, ap, sym, ◌∙◌}
 use mathlib.Core.Bool.{true}
 use mathlib.Core.List.{List, [], ◌∷◌, ◌++◌, map, append-nil}
@@ -20,7 +20,7 @@ use Rattle.names.specs.Judging.{settled_by, new_of}
 use Rattle.grammar.proofs.Same.{same_self}
 use Rattle.names.proofs.RowLaws.{find-hit}
 use Rattle.names.proofs.Grown.{fourfold}
-use Rattle.names.proofs.Told.{command-of, lookup-of, own-variable, child-of, name-in}
+use Rattle.names.proofs.ToldLaws.{command-of, lookup-of, own-variable, child-of, name-in}
 
 -- ---- the mentions that a saying adds
 settled-mentions : (h : List Placed) (b : Tale) → (settling h b).mentions ≡ b.mentions ++ settled_by (Tale.here_in b) h

@@ -27,7 +27,7 @@ use Rattle.names.specs.Walking.{name_by}
 use Rattle.names.specs.Judging.{count_no}
 use Rattle.names.specs.Answers.{Accepted, tale_said}
 use Rattle.names.proofs.Halfway.{Newly}
-use Rattle.names.proofs.Told.{told}
+use Rattle.names.proofs.ToldLaws.{told}
 use Rattle.names.proofs.ViewLaws.{length-snoc, length_last}
 
 -- ---- one more saying

@@ -15,7 +15,7 @@ use Rattle.notation.specs.Names.{command_of, lookup_of, own_variable, child_of, 
 use Rattle.names.specs.Tale.{Tale}
 use Rattle.names.specs.Seek.{seek, node_in, parent_by}
 use Rattle.names.specs.Answers.{Accepted, tale_said, ParentOf}
-use Rattle.names.proofs.Told.{told, command-of, lookup-of, own-variable, child-of, name-in, parent-by}
+use Rattle.names.proofs.ToldLaws.{told, command-of, lookup-of, own-variable, child-of, name-in, parent-by}
 
 less : (o : ℕ) → (o ≡ 0 → ⊥) → o - 1 ≡ parent_by o
 unfolding parent_by

@@ -1,5 +1,5 @@
 -- A search through the declarations of a sort, and what one more saying does to it.
-use Prim.Native.Nat.{ℕ, ◌+◌, ◌<◌, ◌-◌}
+use Prim.Native.Nat.{ℕ, ◌+◌, ◌<◌}
 use mathlib.Core.Path.{◌≡◌, refl, ap, sym, ◌∙◌}
 use mathlib.Core.Bool.{Bool, true, false}
 use mathlib.Core.List.{List, [], ◌∷◌, ◌++◌, append-nil}

@@ -1,5 +1,5 @@
 -- A search for the node of a number, and what one more saying does to it.
-use Prim.Native.Nat.{ℕ, suc, ◌+◌, ◌<◌, ◌≤◌, ◌-◌}
+use Prim.Native.Nat.{ℕ, suc, ◌<◌, ◌≤◌, ◌-◌}
 use mathlib.Core.Path.{◌≡◌, refl, ap, sym}
 use mathlib.Core.List.{List, [], ◌∷◌, ◌++◌}
 use native.Mathlib.Omega.{arith}

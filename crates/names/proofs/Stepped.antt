@@ -59,7 +59,7 @@ settle-stands d s r (t ∷ ts) c = c
 path-view : (s : List ℕ) (ts : List Placed) (q : List Token) (d : Draft) → view_of (mention_path q ts d) s ≡ with_parts (parts (here_in (view_of d s)) q ts) d.held (view_of d s)
 unfolding mention_path parts Hearing.mentioning Hearing.last ◌▸◌
 path-view s [] q d = rw append-nil
-path-view s (t ∷ ts) q d = path-view s ts _ _ ∙ rw (length-nodes, append_assoc)
+path-view s (t ∷ ts) q d = path-view s ts _ _ ∙ (let e : here_in (view_of d s) ≡ length d.nodes - 1 = ap (λ (n : ℕ). n - 1) (length-nodes d.nodes) in rw (← e, append_assoc))
 
 path-stands : (s : List ℕ) (r : Standing) (ts : List Placed) (q : List Token) (d : Draft) → StandsIn r d s → StandsIn r (mention_path q ts d) s
 unfolding mention_path Hearing.mentioning

@@ -27,7 +27,7 @@ use Rattle.names.specs.Walking.{sort_no, nodes_no}
 use Rattle.names.specs.Answers.{Accepted, tale_said, found_of}
 use Rattle.names.specs.Judging.{new_of, HasPath, PathIs, Hearing, index_no, count_no}
 use Rattle.names.proofs.Viewed.{no}
-use Rattle.names.proofs.Told.{told}
+use Rattle.names.proofs.ToldLaws.{told}
 use Rattle.names.proofs.Grown.{fourfold, declared_by, added_to, grows, mentions-grow-all, bad-stays, bad-later}
 use Rattle.names.proofs.Halfway.{Newly}
 use Rattle.names.proofs.GoingUp.{found-is}

@@ -1,6 +1,6 @@
 -- What the code works out by a role's number is what the role tells.
 use Prim.Native.Nat.{ℕ, suc, ◌≤◌, ◌-◌}
-use mathlib.Core.Path.{◌≡◌, refl, ap, sym, ◌∙◌}
+use mathlib.Core.Path.{◌≡◌, refl, ap, sym, ◌∙◌, subst⁻¹}
 use mathlib.Core.Bool.{Bool, true, false}
 use mathlib.Core.List.{List, [], ◌∷◌}
 use native.Mathlib.Omega.{arith}
@@ -132,13 +132,22 @@ unfolding Walking.Holds
 holds-set ls v i [] h c = tt
 holds-set ls v i (x ∷ s) h c = (λ r. get_or-set_other ls i (length s) v 0 (λ e. omega arith) ∙ c.0 r, holds-set ls v i s (omega arith) c.1)
 
+-- a list that opens is kept where there is room for it
+opens-room : (ls : List ℕ) (v n : ℕ) → ltb n 16 ≡ true → lists_no ls 5 v n ≡ set ls n v
+unfolding Walking.lists_no
+opens-room ls v n z = rw z
+
+opens-full : (ls : List ℕ) (v n : ℕ) → ltb n 16 ≡ false → lists_no ls 5 v n ≡ ls
+unfolding Walking.lists_no
+opens-full ls v n z = rw z
+
 holds-opens : (ls s : List ℕ) (v : ℕ) → length ls ≡ 16 → Holds ls s → Holds (lists_no ls 5 v (length s)) (v ∷ s)
-unfolding Walking.lists_no Walking.Holds
+unfolding Walking.Holds
 holds-opens ls s v e h = onto (ltb (length s) 16) refl
   where
     onto : (t : Bool) → ltb (length s) 16 ≡ t → Holds (lists_no ls 5 v (length s)) (v ∷ s)
-    onto true z = rw z (λ r. get_or-set_same ls (length s) v 0 (omega arith), holds-set ls v (length s) s (omega arith) h)
-    onto false z = rw z (λ r. let y : 16 ≤ length s = ltb-false (length s) 16 z in absurd (omega arith), h)
+    onto true z = subst⁻¹ (λ (x : List ℕ). Holds x (v ∷ s)) (opens-room ls v (length s) z) (λ r. get_or-set_same ls (length s) v 0 (omega arith), holds-set ls v (length s) s (omega arith) h)
+    onto false z = subst⁻¹ (λ (x : List ℕ). Holds x (v ∷ s)) (opens-full ls v (length s) z) (λ r. let y : 16 ≤ length s = ltb-false (length s) 16 z in absurd (omega arith), h)
 
 holds-under : (ls s : List ℕ) → Holds ls s → Holds ls (under s)
 unfolding under Walking.Holds

@@ -1,5 +1,5 @@
 -- A step of the walk: where the cursor hears a saying, the walk tells it.
-use Prim.Native.Nat.{ℕ, ◌<◌, ◌≤◌, ◌-◌}
+use Prim.Native.Nat.{ℕ, ◌<◌, ◌≤◌}
 use mathlib.Core.Path.{◌≡◌, refl, ap, sym, ◌∙◌}
 use mathlib.Core.Logic.{◌⊎◌, inl, inr}
 use mathlib.Core.Bool.{Bool, true, false, cond}
@@ -17,11 +17,11 @@ use Rattle.recognise.specs.Tape.{Tape, Advanced, Begun}
 use Rattle.names.specs.declared.walk.Walk.{Walk}
 use Rattle.names.specs.Roles.{role_of, role_number, detail_of}
 use Rattle.names.specs.Tale.{Tale, tell}
-use Rattle.names.specs.Order.{Standing, Orderly, over, onward}
+use Rattle.names.specs.Order.{Standing, Orderly, onward}
 use Rattle.names.specs.Seek.{Shallow}
 use Rattle.names.specs.Walking.{lists_no, nodes_no, depth_no, end_no, heard_of, ended_of, Holds, Follows, Tells, Bounded, Walked, Started}
 use Rattle.names.proofs.Ordered.{plans-orderly}
-use Rattle.names.proofs.Told.{not-silent}
+use Rattle.names.proofs.ToldLaws.{not-silent}
 use Rattle.names.proofs.WalkLaws.{name-by, owner-by, nodes-by, depth-by, holds_by}
 
 silence-heard : say_of 94 ≡ silence

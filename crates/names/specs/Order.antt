@@ -1,6 +1,6 @@
 -- The order of the sayings of an accepted text, as far as names need it: no list is shut that is not open, every node but the root begins
 -- in a list, and a held name is settled by the very next saying.
-use Rattle.std.specs.Prelude.{ℕ, zero, suc, false, not, List, [], ◌∷◌, ◌≡◌}
+use Rattle.std.specs.Prelude.{ℕ, zero, suc, false, List, [], ◌∷◌, ◌≡◌}
 use Rattle.std.proofs.Math.Option.{Option, none, some}
 use Rattle.grammar.specs.Table.{Said}
 use Rattle.notation.specs.Sayings.{Saying}

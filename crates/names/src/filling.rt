@@ -7,7 +7,7 @@ ghost use Rattle.names.specs.Answers.{Accepted, tale_said};
 ghost use Rattle.names.specs.Tables.{more_of, Roomy, Filled};
 
 use super::bad::counted;
-use super::scan::sort_of;
+use super::in_text::sort_of;
 use super::table::{Told, base_of, count_of, room_of};
 use super::walk::{start, step};
 

@@ -4,12 +4,12 @@
 mod answers;
 mod bad;
 mod filling;
+mod in_text;
 mod judge;
 mod kinds;
 mod numbers;
 mod resolve;
 mod roles;
-mod scan;
 mod seek;
 mod table;
 mod walk;

@@ -8,7 +8,7 @@ ghost use Rattle.names.specs.Tables.{Ready};
 
 use super::answers::{NameFound, NodeFound, found_nowhere};
 use super::table::Told;
-use super::{scan, table};
+use super::{in_text, table};
 
 // The first declaration of the sort, the owner m and the name x.
 pub fn find<'a>(
@@ -32,7 +32,7 @@ pub fn find<'a>(
         let base = table::base_of(sort);
         return table::find(text, from, to, owner, base, count, m, x);
     }
-    scan::find(text, owner, sort, m, x)
+    in_text::find(text, owner, sort, m, x)
 }
 
 // The node of a number.
@@ -63,5 +63,5 @@ pub fn node<'a>(
         }
         return table::row(text, from, to, owner, 448 + n);
     }
-    scan::node(text, owner, n)
+    in_text::node(text, owner, n)
 }

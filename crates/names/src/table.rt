@@ -6,7 +6,7 @@ ghost use Rattle.names.specs.Answers.{found_of, Lies, NodeIs};
 ghost use Rattle.names.specs.Tables.{base_of, room_of, count_of, row_at, rows, Fair};
 
 use super::answers::{NameFound, NodeFound, found_at, found_nowhere};
-use super::scan::is_called;
+use super::in_text::is_called;
 
 // How many rows each sort has; `whole` where the tables have every declaration of the text.
 #[derive(Clone, Copy)]

@@ -31,7 +31,7 @@ pub struct Cell {
 
 // A state. The cell of variable v is (vartags[v], varbits[v]), that of lookup l (looktags[l], lookbits[l]).
 #[repr(C)]
-#[derive(Drop)]
+#[derive(Clone, Copy)]
 pub struct State {
     pub status: [u8; 256],
     pub outcome: [u8; 256],
@@ -143,7 +143,7 @@ pub struct Checked {
 }
 
 // The reply of a fresh start.
-#[derive(Drop)]
+#[derive(Clone, Copy)]
 pub struct Started {
     pub verdict: Verdict,
     pub state: State,
@@ -175,7 +175,7 @@ pub enum Tested {
 }
 
 // The reply of a run or a turn: the count of steps done and the next free place in the list.
-#[derive(Drop)]
+#[derive(Clone, Copy)]
 pub struct Ran {
     pub answer: RunAnswer,
     pub steps: u16,

@@ -1,9 +1,9 @@
 -- At each position and class the row of the tables is the one of the grammar.
-use Prim.Native.Nat.{ℕ, zero, suc, ◌+◌, ◌<◌, ◌≤◌}
-use mathlib.Core.Path.{◌≡◌, refl, ◌∙◌, sym, ap, subst}
+use Prim.Native.Nat.{ℕ, ◌+◌, ◌<◌, ◌≤◌}
+use mathlib.Core.Path.{◌≡◌, ◌∙◌, sym, ap, subst}
 use mathlib.Core.Bool.{Bool, true, false, cond}
-use mathlib.Core.List.{List, [], ◌∷◌}
-use mathlib.Core.Option.{Option, none, some}
+use mathlib.Core.List.{List, []}
+use mathlib.Core.Option.{none, some}
 use native.Mathlib.Omega.{arith}
 use native.Mathlib.Nat.{zero-add}
 use lib.ListN.{get_or}
@@ -12,8 +12,8 @@ use Rattle.grammar.specs.Table.{Item}
 use Rattle.notation.specs.Rows.{Close, semicolon, bracket, Sort}
 use Rattle.recognise.specs.declared.Move.{Move}
 use Rattle.recognise.specs.Positions.{Bottom, Position, at, position_at}
-use Rattle.recognise.specs.Tables.{bases, owners, nexts, say_numbers, refusal, row_at, row_of}
-use Rattle.recognise.proofs.Claims.{Outcome, Where, where_of, found, reached_at, tabled, rowed_at, tabled_at, all_rowed, all_tabled, listing}
+use Rattle.recognise.specs.Tables.{bases, owners, refusal, row_at, row_of}
+use Rattle.recognise.proofs.Claims.{where_of, found, reached_at, tabled, rowed_at, tabled_at, all_rowed, all_tabled, listing}
 use Rattle.recognise.proofs.Tabled.{tables-semicolon, tables-bracket}
 use Rattle.recognise.proofs.Found.{listing-at}
 use Rattle.recognise.proofs.Rowing.{say-small, next_small}

@@ -1,28 +1,19 @@
 -- The tables are the rows of the grammar: one test, worked out over every position and every class of tokens.
-use Prim.Native.Nat.{ℕ, zero, suc, ◌+◌, ◌<◌, ◌≤◌}
-use mathlib.Core.Path.{◌≡◌, refl, ◌∙◌, sym, ap}
+use Prim.Native.Nat.{ℕ, zero, suc}
 use mathlib.Core.Bool.{Bool, true, false, cond}
 use mathlib.Core.List.{List, [], ◌∷◌, ◌++◌}
 use mathlib.Core.Option.{Option, none, some}
-use lib.ListN.{get_or}
-use lib.Dec.{eqb, leb, ltb}
-use Rattle.plexil.specs.Lists.{Found, at, nowhere}
-use Rattle.grammar.specs.Spelling as Spelling
-use Rattle.grammar.specs.Leads as Leads
+use lib.Dec.{eqb, ltb}
+use Rattle.plexil.specs.Lists.{Found}
 use Rattle.grammar.specs.Leads.{Lead, the, name, up_to, real, bytes}
 use Rattle.grammar.specs.Table.{Item, lit, sort, Row, rows_of}
 use Rattle.notation.specs.Sayings.{Saying, boolean, integer, float, silence, opens_list as opensList'}
-use Rattle.notation.specs.Rows.{Close, semicolon, bracket, Sort, nodes, called_name, target_name, attributes, operand, operator, Rows, ◌↣◌says◌, rows, met, once, condition, prioritized, owned, notation}
-use Rattle.notation.specs.Classes as Classes
-use Rattle.notation.specs.Classes.{literals, literal_from, bound_from, bounds, within_bound, is_literal, a_name, a_real, accepts_class, pick_class}
-use Rattle.recognise.specs.Codes as Codes
+use Rattle.notation.specs.Rows.{Close, semicolon, bracket, Sort, nodes, called_name, target_name, attributes, operand, operator, ◌↣◌says◌, rows, met, condition, prioritized, owned, notation}
+use Rattle.notation.specs.Classes.{literals, literal_from, bound_from, bounds, within_bound, is_literal, a_name, a_real}
 use Rattle.recognise.specs.Codes.{say_of}
-use Rattle.recognise.specs.Positions as Positions
 use Rattle.recognise.specs.Positions.{Bottom, lists, body, expression, Position, position_at, operator_at}
-use Rattle.recognise.specs.Tables as Tables
 use Rattle.recognise.specs.declared.Move.{Move}
 use Rattle.recognise.specs.Tables.{row_of}
-use Rattle.recognise.specs.Steps as Steps
 use Rattle.recognise.specs.Steps.{Effect, refuses, goes_on, begins_node, begins_in_list, closes_list, opens_list, assigns, opens_paren, ends, closes_paren, marks, effect_of}
 
 -- what a token of a class says, and the items that stand in place of the first

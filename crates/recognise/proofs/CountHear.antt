@@ -1,20 +1,18 @@
 -- What each token adds to the counts of the draft is what `count_of` says.
-use Prim.Native.Nat.{ℕ, zero, suc, ◌+◌, ◌-◌}
+use Prim.Native.Nat.{ℕ, ◌+◌}
 use mathlib.Core.Path.{◌≡◌, refl, ◌∙◌, sym, ap}
 use mathlib.Core.Bool.{Bool, true, false}
-use mathlib.Core.List.{List, [], ◌∷◌, ◌++◌}
+use mathlib.Core.List.{List, [], ◌∷◌}
 use native.Mathlib.Omega.{arith}
 use native.Mathlib.Numerals.{add-one}
 use lib.ListN.{length}
 use Rattle.grammar.specs.Spelling.{Placed}
-use Rattle.grammar.specs.Table.{Said}
 use Rattle.notation.specs.Sayings.{Saying, silence, declares_command, numbers_command, declares_lookup, names, begins, opens_list, closes_list, calls, assigns, conditions, ranks, declares_variable, initial_truth, initial_whole, initial_decimal, initial_bits, truth, whole, decimal, bits, unknown, reads, mentions, descends, asks, negates, operates, parenthesis, closes, ends}
 use Rattle.notation.specs.Draft.{Draft, Node, Slot, condition, value, with_pending, with_held, with_slot}
-use Rattle.notation.specs.Hearing.{◌▸◌, last, mentioning, adding, settled, end_operators, waiting, strength, negated, mention_path, into_slot, hear, hear_all}
+use Rattle.notation.specs.Hearing.{◌▸◌, last, mentioning, settled, end_operators, strength, negated, into_slot, hear}
 use Rattle.recognise.specs.declared.Counts.{Counts}
-use Rattle.recognise.specs.Counting as Counting
 use Rattle.recognise.specs.Counting.{flagged, entries_of, weight_of, change_of, adds, changed, count_of}
-use Rattle.recognise.proofs.CountLaws.{pending_weight, holding, counts_of, entries_be, settled_as, same-counts, length_more, length_last, mention-counts, adding-counts, ending-counts, settled-counts, on-node, on-variable, next-node, path-counts, push-counts, popped, pop-weight}
+use Rattle.recognise.proofs.CountLaws.{pending_weight, holding, counts_of, entries_be, settled_as, same-counts, length_more, length_last, adding-counts, ending-counts, settled-counts, on-node, on-variable, next-node, path-counts, push-counts, pop-weight}
 
 still : (n : ℕ) (c : Counts) → c ≡ changed adds 0 n c
 unfolding changed

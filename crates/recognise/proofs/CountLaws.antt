@@ -1,5 +1,5 @@
 -- The counts of a draft change with each token as `count_of` says.
-use Prim.Native.Nat.{ℕ, zero, suc, ◌+◌, ◌-◌, ◌<◌, ◌≤◌}
+use Prim.Native.Nat.{ℕ, suc, ◌+◌}
 use mathlib.Core.Path.{◌≡◌, refl, ◌∙◌, sym, ap}
 use mathlib.Core.Bool.{Bool, true, false, ◌||◌, cond}
 use mathlib.Core.List.{List, [], ◌∷◌, ◌++◌}
@@ -11,11 +11,11 @@ use lib.Dec.{ltb, leb}
 use Rattle.plexil.specs.Lists.{Found, at, nowhere}
 use Rattle.grammar.specs.Spelling.{Token, Placed}
 use Rattle.notation.specs.Sayings.{Operator, disjunction, conjunction, equal, unequal, less, at_most, greater, at_least, plus, minus, times}
-use Rattle.notation.specs.Draft.{Draft, Node, Variable, Entry, Mention, Pending, prefix, paren, infix', with_pending, with_priority, with_given, with_body}
-use Rattle.notation.specs.Hearing.{◌▸◌, at_last, last, on_node, on_variable, mentioning, adding, next_node, strength, strength_of_not, made, ending, waiting, end_operators, settle_name, settled, mention_path, negated}
+use Rattle.notation.specs.Draft.{Draft, Node, Variable, Entry, Mention, Pending, prefix, paren, infix', with_pending}
+use Rattle.notation.specs.Hearing.{◌▸◌, at_last, last, on_node, on_variable, mentioning, adding, next_node, strength, strength_of_not, made, ending, waiting, end_operators, settle_name, settled, mention_path}
 use Rattle.notation.specs.Names.{is_found, too_deep}
 use Rattle.recognise.specs.declared.Counts.{Counts}
-use Rattle.recognise.specs.Counting.{flagged, entries_of, adds, node, changed}
+use Rattle.recognise.specs.Counting.{flagged, entries_of, node, changed}
 use Rattle.recognise.specs.Recognised.{place_of}
 
 -- the entries that the pending operators will make

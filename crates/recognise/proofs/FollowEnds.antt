@@ -8,20 +8,19 @@ use native.Mathlib.Omega.{arith}
 use lib.ListN.{length}
 use lib.Seq.{slice, length-slice}
 use lib.Dec.{eqb}
-use borrow.Author.Tests.{eqb-true, eq-eqb, ne_eqb}
+use borrow.Author.Tests.{eqb-true, eq-eqb}
 use Rattle.grammar.specs.Table.{Item, Row, Said, rows_of, choose_of, on_said}
-use Rattle.grammar.specs.Scan.{Next, done, broken, token, token_at, token_in, viable, viable_by_rows, says_from, reach_from}
+use Rattle.grammar.specs.Scan.{Next, done, broken, token, token_at, token_in, viable, says_from, reach_from}
 use Rattle.grammar.proofs.TokenAt.{token-at}
 use Rattle.grammar.proofs.SaysFrom.{says-token, says_past, says-done, says-short, says-broken}
 use Rattle.grammar.proofs.ReachFrom.{reach-done, reach-broken, reach-stops, reach-past}
 use Rattle.grammar.proofs.Viable.{viable-within}
 use Rattle.grammar.proofs.ViableBy.{viable-by-rows}
 use Rattle.notation.specs.Sayings.{Saying}
-use Rattle.notation.specs.Rows as Rows
 use Rattle.notation.specs.Rows.{Close, semicolon, bracket, Sort, notation}
 use Rattle.notation.specs.Classes.{class_of, pick_class}
-use Rattle.notation.specs.Draft.{Draft, blank}
-use Rattle.notation.specs.Hearing.{hear_all, draft_of}
+use Rattle.notation.specs.Draft.{Draft}
+use Rattle.notation.specs.Hearing.{draft_of}
 use Rattle.notation.specs.Names.{is_found, too_deep}
 use Rattle.notation.specs.Reading.{plan_says, text_reach}
 use Rattle.notation.proofs.Classes.{choose-class}
@@ -29,16 +28,14 @@ use Rattle.recognise.specs.declared.Ahead.{Ahead}
 use Rattle.recognise.specs.declared.Stepped.{Stepped}
 use Rattle.recognise.specs.declared.Taken.{Taken}
 use Rattle.recognise.specs.declared.Counts.{Counts}
-use Rattle.recognise.specs.declared.Recognised.{Recognised}
 use Rattle.recognise.specs.Positions as Positions
 use Rattle.recognise.specs.Positions.{Bottom, lists, body, expression, position_at, tower, closer, parentheses}
 use Rattle.recognise.specs.Steps.{most, step_of}
 use Rattle.recognise.specs.Taking.{taken_as, taken_by, taken_of}
 use Rattle.recognise.specs.Hears as Hears
 use Rattle.recognise.specs.Hears.{Stands, piece, rear_item, below, items_of}
-use Rattle.recognise.specs.Recognised as Recognised'
 use Rattle.recognise.specs.Recognised.{place_of, refused_at, accepted_as, recognised_by, recognised_of}
-use Rattle.recognise.specs.Reaching.{empty_at, tallied, viable_from, reached_by, Within, Lies}
+use Rattle.recognise.specs.Reaching.{empty_at, tallied, viable_from, reached_by, Lies}
 use Rattle.recognise.proofs.Claims.{listing}
 use Rattle.recognise.proofs.Claimed.{listed}
 use Rattle.recognise.proofs.ClassSmall.{class-below}

@@ -1,8 +1,8 @@
 -- What the loop over a text's tokens keeps: what is to come, what has been heard, the counts, and how far the text is viable from here.
-use Prim.Native.Nat.{ℕ, zero, suc, ◌+◌, ◌-◌, ◌*◌, ◌<◌, ◌≤◌}
+use Prim.Native.Nat.{ℕ, ◌<◌, ◌≤◌}
 use mathlib.Core.Path.{◌≡◌, refl, ◌∙◌, sym, ap, subst, subst⁻¹}
-use mathlib.Core.Bool.{Bool, true, false, cond}
-use mathlib.Core.List.{List, [], ◌∷◌, ◌++◌, append_assoc, append-nil}
+use mathlib.Core.Bool.{true, false}
+use mathlib.Core.List.{List, [], ◌∷◌, ◌++◌, append_assoc}
 use mathlib.Core.Option.{Option, none, some}
 use native.Mathlib.Omega.{arith}
 use native.Mathlib.Nat.{zero-add}
@@ -10,22 +10,21 @@ use lib.ListN.{length}
 use lib.Seq.{slice}
 use Rattle.grammar.specs.Spelling.{Placed}
 use Rattle.grammar.specs.Table.{Item, sort, Row, Said, rows_of, choose_of, on_said}
-use Rattle.grammar.specs.Scan.{token, token_at, token_in, says_from, reach_from}
+use Rattle.grammar.specs.Scan.{token_in, says_from, reach_from}
 use Rattle.grammar.proofs.TokenAt.{token-at}
 use Rattle.grammar.proofs.SaysFrom.{says-token, says-whole}
 use Rattle.grammar.proofs.ReachFrom.{reach-token}
 use Rattle.notation.specs.Sayings.{Saying}
 use Rattle.notation.specs.Rows.{Sort, plan, notation}
 use Rattle.notation.specs.Classes.{class_of, pick_class}
-use Rattle.notation.specs.Draft.{Draft, blank}
-use Rattle.notation.specs.Hearing.{hear, hear_all}
+use Rattle.notation.specs.Draft.{blank}
+use Rattle.notation.specs.Hearing.{hear_all}
 use Rattle.notation.specs.Names.{is_found, too_deep}
 use Rattle.notation.specs.Reading.{plan_says, text_reach}
 use Rattle.recognise.specs.Recognised.{place_of}
 use Rattle.notation.proofs.Classes.{choose-class}
 use Rattle.notation.proofs.Spoken.{hear-append}
 use Rattle.recognise.specs.declared.Ahead.{Ahead}
-use Rattle.recognise.specs.declared.Stepped.{Stepped}
 use Rattle.recognise.specs.declared.Taken.{Taken}
 use Rattle.recognise.specs.declared.Counts.{Counts}
 use Rattle.recognise.specs.Codes.{say_of}
@@ -33,13 +32,12 @@ use Rattle.recognise.specs.Positions as Positions
 use Rattle.recognise.specs.Steps.{step_of, start_ahead}
 use Rattle.recognise.specs.Hears as Hears
 use Rattle.recognise.specs.Hears.{Stands}
-use Rattle.recognise.specs.Counting.{flagged, weight_of, change_of, changed, count_of}
-use Rattle.recognise.specs.Taking.{taken_of}
+use Rattle.recognise.specs.Counting.{flagged, count_of}
 use Rattle.recognise.proofs.ClassSmall.{class-below}
 use Rattle.recognise.proofs.ItemsKnown.{first-known}
 use Rattle.recognise.proofs.Standing.{unmarked-marks}
 use Rattle.recognise.proofs.Stepping.{Right, step_right, step-ends}
-use Rattle.recognise.proofs.Takings.{One, taken-one}
+use Rattle.recognise.proofs.Takings.{One}
 use Rattle.recognise.proofs.Hearings.{Near, step-near}
 use Rattle.recognise.proofs.Advances.{token_said}
 use Rattle.recognise.proofs.CountLaws.{counts_of, pending_weight, holding}

@@ -1,5 +1,5 @@
 -- The row that is found by the classes of the rows is the one that the grammar picks.
-use Prim.Native.Nat.{ℕ, zero, suc, ◌+◌, ◌<◌, ◌≤◌}
+use Prim.Native.Nat.{ℕ, zero, suc, ◌+◌, ◌<◌}
 use mathlib.Core.Path.{◌≡◌, refl, ◌∙◌, sym, ap}
 use mathlib.Core.Bool.{Bool, true, false, not, ◌||◌, cond}
 use mathlib.Core.List.{List, [], ◌∷◌, ◌++◌, append-nil}
@@ -8,7 +8,7 @@ use native.Mathlib.Nat.{add-zero, zero-add, suc-add, add-suc, not-suc-le-zero, l
 use lib.ListN.{get_or}
 use Rattle.grammar.specs.Leads as Leads
 use Rattle.grammar.specs.Leads.{Lead, the, name, up_to, real}
-use Rattle.grammar.specs.Table.{Item, Row, rows_of}
+use Rattle.grammar.specs.Table.{Item, Row}
 use Rattle.notation.specs.Sayings.{Saying}
 use Rattle.notation.specs.Rows as Rows
 use Rattle.notation.specs.Rows.{Sort, attributes, rows, met, once}

@@ -1,21 +1,21 @@
 -- What is still to be heard, one token after another.
-use Prim.Native.Nat.{ℕ, zero, suc, ◌+◌, ◌-◌, ◌<◌, ◌≤◌}
-use mathlib.Core.Path.{◌≡◌, refl, ◌∙◌, sym, ap, subst, subst⁻¹}
+use Prim.Native.Nat.{ℕ, ◌+◌, ◌<◌, ◌≤◌}
+use mathlib.Core.Path.{◌≡◌, refl, ◌∙◌, sym, ap, subst}
 use mathlib.Core.Bool.{Bool, true, false, cond}
 use mathlib.Core.List.{List, [], ◌∷◌, ◌++◌}
 use mathlib.Core.Option.{Option, none, some}
 use native.Mathlib.Omega.{arith}
-use lib.ListN.{length, take, drop, get_or}
+use lib.ListN.{length, get_or}
 use lib.Seq.{slice}
 use lib.Dec.{eqb, ltb}
 use Rattle.grammar.specs.Spelling.{Placed}
-use Rattle.grammar.specs.Table.{Item, Row, Said, rows_of, choose_of, on_said}
+use Rattle.grammar.specs.Table.{Item, Row, Said, rows_of, on_said}
 use Rattle.grammar.specs.Scan.{Next, done, broken, token, token_at, token_in, says_from}
 use Rattle.grammar.proofs.TokenAt.{token-at}
 use Rattle.grammar.proofs.SaysFrom.{says-token, says_past, says-done, says-short, says-broken}
 use Rattle.notation.specs.Sayings.{Saying}
 use Rattle.notation.specs.Rows.{Sort, notation}
-use Rattle.notation.specs.Spoken.{is_silent, spoken}
+use Rattle.notation.specs.Spoken.{spoken}
 use Rattle.notation.specs.Classes.{class_of, pick_class}
 use Rattle.notation.proofs.Classes.{choose-class}
 use Rattle.recognise.specs.declared.Ahead.{Ahead}
@@ -23,13 +23,13 @@ use Rattle.recognise.specs.declared.Move.{Move}
 use Rattle.recognise.specs.declared.Stepped.{Stepped}
 use Rattle.recognise.specs.Codes.{say_of}
 use Rattle.recognise.specs.Tables.{row_of}
-use Rattle.recognise.specs.Steps.{Effect, refuses, goes_on, begins_node, begins_in_list, closes_list, opens_list, assigns, opens_paren, ends, closes_paren, marks, effect_of, most, refused, went, moved, step_of}
+use Rattle.recognise.specs.Steps.{Effect, refuses, goes_on, begins_node, begins_in_list, closes_list, opens_list, assigns, opens_paren, ends, closes_paren, marks, effect_of, most, moved, step_of}
 use Rattle.recognise.specs.declared.Taken.{Taken}
 use Rattle.recognise.specs.Taking.{taken_as, taken_by, taken_of}
 use Rattle.recognise.specs.Hears.{Stands, Hearing}
 use Rattle.recognise.proofs.ClassSmall.{class-below}
 use Rattle.recognise.proofs.ItemsKnown.{first-known}
-use Rattle.recognise.proofs.Stepping.{Right, step_right, step-ends}
+use Rattle.recognise.proofs.Stepping.{Right, step_right}
 
 -- a token opens at most one parenthesis, and at most one list
 pub record Near (a b : Ahead) : Type 0 where

@@ -1,21 +1,20 @@
 -- Nothing is pending at the end of an accepted text: each operator has ended with its expression.
-use Prim.Native.Nat.{ℕ, zero, suc, ◌+◌}
-use mathlib.Core.Path.{◌≡◌, refl, ◌∙◌, sym, ap, subst}
+use Prim.Native.Nat.{ℕ, suc}
+use mathlib.Core.Path.{◌≡◌, refl, ◌∙◌, sym, ap}
 use mathlib.Core.Bool.{Bool, true, false, cond}
-use mathlib.Core.List.{List, [], ◌∷◌, ◌++◌}
-use mathlib.Core.Option.{Option, none, some}
+use mathlib.Core.List.{List, [], ◌∷◌}
+use mathlib.Core.Option.{some}
 use native.Mathlib.Omega.{arith}
 use lib.Dec.{leb}
 use borrow.Author.Tests.{le-leb}
 use Rattle.grammar.specs.Spelling.{Token, Placed}
 use Rattle.grammar.specs.Table.{Said}
-use Rattle.notation.specs.Sayings.{Kind, What, Operator, Saying, declares_command, numbers_command, declares_lookup, names, begins, opens_list, closes_list, calls, assigns, conditions, ranks, declares_variable, initial_truth, initial_whole, initial_decimal, initial_bits, truth, whole, decimal, bits, unknown, reads, mentions, descends, asks, negates, operates, parenthesis, closes, ends}
-use Rattle.notation.specs.Spoken.{spoken}
+use Rattle.notation.specs.Sayings.{Kind, What, Operator, Saying, declares_command, numbers_command, declares_lookup, opens_list, closes_list, calls, assigns, conditions, ranks, declares_variable, mentions, descends, asks, negates, operates, parenthesis, closes, ends}
 use Rattle.notation.specs.Phrases as Phrases
 use Rattle.notation.specs.Phrases.{Sayings, Says, Leaf, Path, Operand, Chain, Expression, Initial, Opening, Node, Attributes, Nodes, Plan}
 use Rattle.notation.specs.Draft.{Draft, blank, Pending, prefix, paren, infix', with_held}
 use Rattle.notation.specs.Hearing as Hearing
-use Rattle.notation.specs.Hearing.{hear, hear_all, adding, end_operators, on_node, draft_of, waiting, strength, strength_of_not, settled, settle_name, mention_path, negated}
+use Rattle.notation.specs.Hearing.{◌▸◌, hear, hear_all, adding, end_operators, on_node, draft_of, waiting, strength, strength_of_not, settled, settle_name, mention_path, negated}
 use Rattle.notation.specs.Reading.{plan_says}
 use Rattle.notation.proofs.Spoken.{hear-spoken}
 use Rattle.notation.proofs.Phrased.{plans-phrased}
@@ -67,7 +66,7 @@ settled-pending d = go d.held
 path-pending : (q : List Token) (ts : List Placed) (d : Draft) → (mention_path q ts d).pending ≡ d.pending
 unfolding Hearing.opened
 path-pending q [] d = refl
-path-pending q (t ∷ ts) d = path-pending _ ts _
+path-pending q (t ∷ ts) d = path-pending (q ▸ t.bytes) ts _
 
 -- a token that leaves what is pending as it is
 calm : (w : Said Saying) (x : Saying) → Says w x → ((t : Placed) (d : Draft) → (hear x t d).pending ≡ d.pending) → (d : Draft) → (hear w.what w.token d).pending ≡ d.pending

@@ -1,27 +1,25 @@
 -- What a step leaves is what the row that the token begins leaves: one law for each place that a position can have, by the row's effect.
-use Prim.Native.Nat.{ℕ, zero, suc, ◌+◌, ◌-◌, ◌<◌, ◌≤◌}
+use Prim.Native.Nat.{ℕ, zero, suc, ◌-◌, ◌<◌}
 use mathlib.Core.Path.{◌≡◌, refl, ◌∙◌, sym, ap, subst}
 use mathlib.Core.Bool.{Bool, true, false, not, ◌||◌, cond}
 use mathlib.Core.List.{List, [], ◌∷◌, ◌++◌, append_assoc}
 use mathlib.Core.Option.{Option, none, some}
 use native.Mathlib.Omega.{arith}
 use native.Mathlib.Numerals.{add-one}
-use lib.ListN.{length, get_or, set, length-set, get_or-replicate}
+use lib.ListN.{get_or, set, length-set, get_or-replicate}
 use lib.Seq.{get_or-set_same, get_or-set_other}
-use lib.Dec.{eqb, ltb}
-use borrow.Author.Tests.{eq-eqb, ne_eqb, lt-ltb, eqb-true, eqb-false, ltb-true}
-use Rattle.grammar.specs.Table.{Item, lit, sort, Row}
-use Rattle.notation.specs.Sayings.{Saying}
-use Rattle.notation.specs.Rows.{Close, semicolon, bracket, Sort, nodes, attributes, operator, met}
+use lib.Dec.{eqb}
+use borrow.Author.Tests.{ne_eqb, lt-ltb, eqb-true, eqb-false}
+use Rattle.grammar.specs.Table.{Item, lit, sort}
+use Rattle.notation.specs.Rows.{bracket, Sort, nodes, attributes, operator, met}
 use Rattle.recognise.specs.declared.Ahead.{Ahead}
 use Rattle.recognise.specs.declared.Move.{Move}
 use Rattle.recognise.specs.declared.Stepped.{Stepped}
 use Rattle.recognise.specs.Codes.{say_of}
-use Rattle.recognise.specs.Positions.{Bottom, lists, body, expression, Position, at, position_at, positions, operator_at, body_at, brace_at, tower, closer, parentheses}
-use Rattle.recognise.specs.Steps.{Effect, refuses, goes_on, begins_node, begins_in_list, closes_list, opens_list, assigns, opens_paren, ends, closes_paren, marks, unmarked, most, refused, went, rear_at, moved}
+use Rattle.recognise.specs.Positions.{Bottom, lists, body, expression, Position, position_at, positions, operator_at, body_at, brace_at, tower, closer, parentheses}
+use Rattle.recognise.specs.Steps.{goes_on, begins_node, begins_in_list, closes_list, opens_list, assigns, opens_paren, ends, closes_paren, marks, unmarked, most, went, rear_at, moved}
 use Rattle.recognise.specs.Hears.{Marks, rear_item, below, items_of, Stands}
-use Rattle.recognise.proofs.Claims as Claims
-use Rattle.recognise.proofs.Claims.{Outcome, stub, shown, alike, as_lists, as_body, as_expression, in_lists', in_expression, ends_by, closes_by, given, saying, unless, only_once, expected_in_front, expected_in_lists, expected_in_body}
+use Rattle.recognise.proofs.Claims.{Outcome, stub, shown, alike, as_lists, as_body, as_expression, in_lists', in_expression, ends_by, closes_by, given, saying, unless}
 
 -- what a token leaves as it is
 unfoldable pub tail : List ℕ → Ahead → Bottom → List (Item Sort)

@@ -1,26 +1,26 @@
 -- A step of the machine is a step of the grammar: it is refused where no row begins so, and else leaves what the row leaves.
-use Prim.Native.Nat.{ℕ, zero, suc, ◌+◌, ◌-◌, ◌<◌, ◌≤◌}
+use Prim.Native.Nat.{ℕ, zero, suc, ◌<◌}
 use mathlib.Core.Path.{◌≡◌, refl, ◌∙◌, sym, ap, subst, subst₂}
-use mathlib.Core.Bool.{Bool, true, false, not, cond}
+use mathlib.Core.Bool.{Bool, true, false, cond}
 use mathlib.Core.List.{List, [], ◌∷◌, ◌++◌, append_assoc}
 use mathlib.Core.Option.{Option, none, some}
 use native.Mathlib.Omega.{arith}
 use lib.ListN.{get_or}
 use lib.Dec.{eqb, ltb}
 use borrow.Author.Tests.{ltb-true}
-use Rattle.grammar.specs.Table.{Item, lit, sort, Row, rows_of}
+use Rattle.grammar.specs.Table.{Item, Row, rows_of}
 use Rattle.notation.specs.Sayings.{Saying}
-use Rattle.notation.specs.Rows.{Close, Sort, nodes, attributes, rows, met, notation}
+use Rattle.notation.specs.Rows.{Sort, nodes, attributes, rows, met, notation}
 use Rattle.notation.specs.Classes.{pick_class}
 use Rattle.recognise.specs.declared.Ahead.{Ahead}
 use Rattle.recognise.specs.declared.Move.{Move}
 use Rattle.recognise.specs.declared.Stepped.{Stepped}
 use Rattle.recognise.specs.Codes.{say_of}
-use Rattle.recognise.specs.Positions.{Bottom, lists, body, expression, Position, at, position_at, operator_at, tower, closer}
+use Rattle.recognise.specs.Positions.{Bottom, lists, body, expression, at, position_at, operator_at, tower, closer}
 use Rattle.recognise.specs.Tables.{row_of}
 use Rattle.recognise.specs.Steps.{Effect, refuses, goes_on, begins_node, begins_in_list, closes_list, opens_list, assigns, opens_paren, ends, closes_paren, marks, effect_of, most, moved, step_of}
 use Rattle.recognise.specs.Hears.{Marks, below, items_of, Stands}
-use Rattle.recognise.proofs.Claims.{Outcome, in_front, in_lists, in_body, never, made, stub, saying, unless, only_once, given, expected_in_front, expected_in_lists, expected_in_body, expected, tabled, found, reached_at, where_of}
+use Rattle.recognise.proofs.Claims.{Outcome, made, stub, saying, unless, only_once, given, expected_in_front, expected_in_lists, expected_in_body, expected, tabled, reached_at, where_of}
 use Rattle.recognise.proofs.Found.{after, found-free, found-attributes}
 use Rattle.recognise.proofs.Claimed.{claim, row_next}
 use Rattle.recognise.proofs.Standing.{tail, below_split, Fits, fits-same, never-some, goes, begins, opens, ending, closing, begins-in-list, closes-list, opens-list, assigning, marking}

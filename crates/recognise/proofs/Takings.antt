@@ -1,8 +1,8 @@
 -- What the code takes next is what the definition says, and what a token that is taken tells.
-use Prim.Native.Nat.{ℕ, ◌+◌, ◌<◌, ◌≤◌}
+use Prim.Native.Nat.{ℕ, ◌≤◌}
 use mathlib.Core.Path.{◌≡◌, refl, ◌∙◌, sym, ap, subst⁻¹}
 use mathlib.Core.Bool.{Bool, true, false, cond}
-use mathlib.Core.List.{List, [], ◌∷◌}
+use mathlib.Core.List.{List}
 use native.Mathlib.Omega.{arith}
 use lib.ListN.{length}
 use lib.Seq.{slice}
@@ -13,7 +13,6 @@ use Rattle.scan.specs.declared.tokens.Token.{Token}
 use Rattle.scan.specs.Reply.{token_of}
 use Rattle.scan.proofs.Replies.{reply-token}
 use Rattle.recognise.specs.declared.Ahead.{Ahead}
-use Rattle.recognise.specs.declared.Stepped.{Stepped}
 use Rattle.recognise.specs.declared.Taken.{Taken}
 use Rattle.recognise.specs.Steps.{step_of}
 use Rattle.recognise.specs.Taking.{taken_as, taken_by, taken_of}

@@ -1,19 +1,17 @@
 -- A cursor on the tape, or in the text where the tape has it not.
-use Prim.Native.Nat.{ℕ, suc, ◌+◌, ◌-◌, ◌<◌, ◌≤◌}
+use Prim.Native.Nat.{ℕ, ◌+◌, ◌-◌, ◌<◌, ◌≤◌}
 use mathlib.Core.Path.{◌≡◌, refl, ◌∙◌, sym, ap}
 use mathlib.Core.Logic.{inl, inr}
-use mathlib.Core.List.{List, [], ◌∷◌}
-use mathlib.Core.Option.{some}
+use mathlib.Core.List.{List, ◌∷◌}
 use native.Mathlib.Omega.{arith}
 use lib.ListN.{length, drop, get_or, length-drop}
 use lib.Seq.{drop-drop}
 use Rattle.grammar.specs.Table.{Said}
 use Rattle.notation.specs.Sayings.{Saying}
 use Rattle.notation.specs.Spoken.{spoken}
-use Rattle.recognise.specs.declared.Ahead.{Ahead}
 use Rattle.recognise.specs.declared.Cursor.{Cursor}
 use Rattle.recognise.specs.Steps.{start_ahead}
-use Rattle.recognise.specs.Hears.{Brief, Left, Hears, Scanned}
+use Rattle.recognise.specs.Hears.{Hears, Scanned}
 use Rattle.recognise.specs.Tape.{says_in, from_in, to_in, held_in, Tells, Tape, Advanced, Begun}
 use Rattle.recognise.proofs.Advances.{begun}
 use Rattle.recognise.proofs.Tapes.{left-within}

@@ -1,7 +1,7 @@
 -- How much of a token can begin one of a row: by the class of the row's lead, and by every class that the row takes.
 use Prim.Native.Nat.{ℕ, zero, suc, ◌+◌, ◌-◌, ◌*◌, ◌<◌, ◌≤◌, max}
 use Prim.Native.String.{String}
-use mathlib.Core.Path.{◌≡◌, refl, ◌∙◌, sym, ap, subst}
+use mathlib.Core.Path.{◌≡◌, refl, ◌∙◌, sym, ap}
 use mathlib.Core.Bool.{Bool, true, false, ◌&&◌, ◌||◌, cond}
 use mathlib.Core.List.{List, [], ◌∷◌}
 use mathlib.Core.Option.{Option, none, some}

@@ -1,6 +1,6 @@
 -- How much of a token can come where something is to come: the most over the classes is the most over the rows.
-use Prim.Native.Nat.{ℕ, zero, suc, ◌+◌, ◌<◌, ◌≤◌}
-use mathlib.Core.Path.{◌≡◌, refl, ◌∙◌, sym, ap}
+use Prim.Native.Nat.{ℕ, zero, suc, ◌<◌, ◌≤◌}
+use mathlib.Core.Path.{◌≡◌, refl, ◌∙◌, sym}
 use mathlib.Core.Bool.{Bool, true, false, cond}
 use mathlib.Core.List.{List, [], ◌∷◌}
 use mathlib.Core.Option.{Option, none, some}
@@ -23,7 +23,7 @@ use Rattle.recognise.specs.Hears.{Stands}
 use Rattle.recognise.specs.Reaching.{more_of, viable_from}
 use Rattle.recognise.proofs.ItemsKnown.{first-known}
 use Rattle.recognise.proofs.Stepping.{Right, step_right, step-ends}
-use Rattle.recognise.proofs.ViableClasses.{any_takes, rows-within, rows-most, picks-some}
+use Rattle.recognise.proofs.ViableClasses.{rows-within, rows-most, picks-some}
 
 no_bool : true ≡ false → ⊥
 no_bool e = let z : ◌≡◌ {A = ℕ} 0 1 = cc in omega arith

@@ -1,6 +1,6 @@
 -- What is still to come, as a cursor tells it, and what a cursor hears: the sayings of the text that are still to come, silent tokens left out.
-use Rattle.std.specs.Prelude.{ℕ, ◌+◌, ◌<◌, ◌≤◌, ◌-◌, ◌≡◌, Bool, true, false, not, cond, List, [], ◌∷◌, ◌++◌, length, take, drop, get_or, eqb}
-use Rattle.std.proofs.Math.Option.{Option, none, some}
+use Rattle.std.specs.Prelude.{ℕ, ◌+◌, ◌<◌, ◌≤◌, ◌-◌, ◌≡◌, not, cond, List, [], ◌∷◌, ◌++◌, length, take, drop, get_or, eqb}
+use Rattle.std.proofs.Math.Option.{some}
 use Rattle.grammar.specs.Table.{Item, lit, sort, Said}
 use Rattle.grammar.specs.Scan.{says_from}
 use Rattle.notation.specs.Sayings.{Saying}

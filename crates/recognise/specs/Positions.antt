@@ -1,8 +1,8 @@
 -- Where the machine can stand in a text: what comes next there, and what lies below it.
-use Rattle.std.specs.Prelude.{ℕ, zero, suc, true, false, List, [], ◌∷◌, ◌++◌, get_or}
+use Rattle.std.specs.Prelude.{ℕ, zero, suc, true, false, List, [], ◌∷◌, get_or}
 use Rattle.grammar.specs.Table.{Item, lit, sort}
 use Rattle.notation.specs.Sayings.{boolean, integer, float, status, outcome, failure}
-use Rattle.notation.specs.Rows.{Close, semicolon, bracket, Sort, plan, nodes, command_name, command_number, called_name, target_name, lookup_used, priority, negated_integer, negated_real, lookup_name, attributes, variables, initial, value, initial_pattern, pattern, operand, operator, after_name, after_path, negative, property, compared, code}
+use Rattle.notation.specs.Rows.{Close, semicolon, bracket, Sort, plan, nodes, command_name, command_number, called_name, target_name, lookup_used, priority, negated_integer, negated_real, lookup_name, variables, initial, value, initial_pattern, pattern, operand, operator, after_name, after_path, negative, property, compared, code}
 
 -- what lies below: the open lists; the rest of a node and these; the open parentheses of an expression, what follows it, and these
 pub data Bottom : Type 0 where

@@ -1,5 +1,5 @@
 -- What the end of the loop over a text's tokens tells.
-use Rattle.std.specs.Prelude.{ℕ, zero, suc, ◌+◌, ◌<◌, ◌≤◌, ◌≡◌, Bool, true, false, ◌&&◌, cond, List, [], ◌∷◌, length, eqb, ltb}
+use Rattle.std.specs.Prelude.{ℕ, zero, suc, ◌+◌, ◌<◌, ◌≤◌, ◌≡◌, Bool, true, ◌&&◌, cond, List, length, eqb, ltb}
 use Rattle.grammar.specs.Spelling.{Token}
 use Rattle.words.specs.Viable.{viable_class}
 use Rattle.recognise.specs.declared.Ahead.{Ahead}

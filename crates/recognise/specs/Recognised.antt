@@ -1,5 +1,5 @@
 -- What is told of a text before it is read: whether it is of the notation, how far it is viable if not, whether it is too deep, and its counts.
-use Rattle.std.specs.Prelude.{ℕ, Bool, true, false, List, length}
+use Rattle.std.specs.Prelude.{ℕ, true, false, List, length}
 use Rattle.std.proofs.Math.Option.{Option, none, some}
 use Rattle.plexil.specs.Lists.{Found, at, nowhere}
 use Rattle.grammar.specs.Table.{Said}

@@ -1,5 +1,5 @@
 -- One token more: what the row that it begins does to what is still to come.
-use Rattle.std.specs.Prelude.{ℕ, zero, suc, ◌+◌, ◌-◌, Bool, true, false, cond, List, [], ◌∷◌, get_or, set, eqb, ltb}
+use Rattle.std.specs.Prelude.{ℕ, ◌+◌, ◌-◌, true, false, cond, List, [], ◌∷◌, get_or, set, eqb, ltb}
 use Rattle.recognise.specs.declared.Ahead.{Ahead}
 use Rattle.recognise.specs.declared.Move.{Move}
 use Rattle.recognise.specs.declared.Stepped.{Stepped}

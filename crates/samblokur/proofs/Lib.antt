@@ -1,4 +1,2 @@
 pub mod ExitLaws
-pub mod Lending
-pub mod Lent
 pub mod OneReply

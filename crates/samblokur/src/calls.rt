@@ -15,7 +15,7 @@ pub struct CheckExit {
 }
 
 // What a fresh start, a run or a turn leaves: the number it returns, the report, the state and the turn card.
-#[derive(Drop)]
+#[derive(Clone, Copy)]
 pub struct TurnExit {
     pub number: u32,
     pub report: Report,

@@ -1,0 +1,31 @@
+-- After j nodes each row of flags has the answer of the nodes below j; what is left of the nodes falls.
+use borrow.Author.Rules.{rules}
+use native.Mathlib.Omega.{arith}
+use mathlib.Core.Path.{◌≡◌}
+use mathlib.Core.Logic.{⊎_elim}
+use Prim.Native.Nat.{◌≤◌, ◌-◌}
+use Rattle.plexil.specs.Image.{node_count}
+use Rattle.plexil.specs.Atomic.{is_finished, is_resting}
+use Rattle.atomic.proofs.ChildLaws.{Row, row-start, row-skip, row-set, row-end}
+use Rattle.atomic.proofs.children.test_children.Goals as goal
+
+pub loop-j-init : goal.loop-j-init
+loop-j-init c = (search rules, c.node_count-n.ensures, row-start _ _ is_finished, row-start _ _ is_resting)
+
+pub loop-j-preserved : goal.loop-j-preserved
+loop-j-preserved c = (
+  search rules,
+  c.loop-j.invariant.1,
+  ⊎_elim
+      (λ w. rw w.1 (row-set _ _ is_finished _ _ c.parent-q.ensures w.0.taken c.status_at-a.ensures c.is_finished-f.ensures c.loop-j.invariant.2))
+      (λ w. rw w.1 (row-skip _ _ is_finished _ _ c.parent-q.ensures w.0.left c.loop-j.invariant.2))
+      c.if-q-lt256.branch,
+  ⊎_elim
+      (λ w. rw w.2 (row-set _ _ is_resting _ _ c.parent-q.ensures w.0.taken c.status_at-a.ensures c.is_resting-r.ensures c.loop-j.invariant.3))
+      (λ w. rw w.2 (row-skip _ _ is_resting _ _ c.parent-q.ensures w.0.left c.loop-j.invariant.3))
+      c.if-q-lt256.branch,
+)
+
+pub returns : goal.returns
+returns c = let e : c.loop-j.j ≡ node_count c.args.image.now = omega (arith, c.loop-j.invariant.1) in
+    record { finished = row-end _ _ is_finished _ e c.loop-j.invariant.2; resting = row-end _ _ is_resting _ e c.loop-j.invariant.3 }

@@ -1,0 +1,23 @@
+-- Outcome and failure by the effect.
+use Rattle.plexil.specs.Places.{outcome_at, failure_at}
+use Rattle.plexil.specs.Micro.{ending_by}
+use Rattle.atomic.proofs.moved.ending_by.Goals as goal
+
+pub returns-in-Kept : goal.returns-in-Kept
+unfolding ending_by outcome_at failure_at
+returns-in-Kept c mark = rw c.in-Kept.is (λ k. record { outcome = c.at.ensures k; failure = c.at-in-Kept.ensures k })
+
+pub returns-in-Cleared : goal.returns-in-Cleared
+unfolding ending_by
+returns-in-Cleared c mark = rw c.in-Cleared.is
+
+pub returns-in-Skipped : goal.returns-in-Skipped
+unfolding ending_by failure_at
+returns-in-Skipped c mark = rw c.in-Skipped.is (λ k. record { outcome = 3; failure = c.at-in-Skipped.ensures k })
+
+pub returns-in-Failed : goal.returns-in-Failed
+unfolding ending_by
+returns-in-Failed c mark = rw c.in-Failed.is
+
+pub returns-in-Judged : goal.returns-in-Judged
+returns-in-Judged c mark = rw c.in-Judged.is (c.judged.ensures mark)

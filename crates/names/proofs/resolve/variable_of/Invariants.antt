@@ -1,0 +1,17 @@
+-- `names::resolve::variable_of` meets its contract. The invariant: what is sought from n is sought from `node`, at most `left` nodes further up.
+use Prim.Native.Nat.{suc}
+use mathlib.Core.Path.{◌≡◌}
+use mathlib.Core.List.{List}
+use Rattle.grammar.specs.Table.{Said}
+use Rattle.notation.specs.Sayings.{Saying}
+use Rattle.notation.specs.Hearing.{draft_of}
+use Rattle.notation.specs.Names.{variable_up, variable_of}
+use Rattle.names.specs.Answers.{Accepted, tale_said}
+use Rattle.names.specs.Tables.{Ready}
+use Rattle.names.proofs.resolve.variable_of.Given as goal
+
+abbrev pub invariant-loop-told : goal.invariant-loop-told
+invariant-loop-told v = ((l : List (Said Saying)) → Accepted v.text l → Ready v.text (tale_said l) v.from v.to v.owner v.told → variable_of (draft_of l) v.n v.x ≡ variable_up (draft_of l) (suc v.left) v.node v.x)
+
+abbrev pub decreases-loop-told : goal.decreases-loop-told
+decreases-loop-told v = v.left
