@@ -8,7 +8,6 @@ use borrow.Author.Tests.{ne_eqb}
 use Rattle.plexil.specs.declared.Worked.{Worked}
 use Rattle.plexil.specs.declared.State.{State}
 use Rattle.plexil.specs.declared.Condition.{Condition}
-use Rattle.plexil.specs.Lists.{if◌then◌else◌}
 use Rattle.plexil.specs.Values.{encode}
 use Rattle.plexil.specs.Image.{Image, default, node_count, expr_count, condition_field, value_field}
 use Rattle.plexil.specs.Places.{seen}

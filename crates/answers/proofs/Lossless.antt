@@ -8,6 +8,7 @@ use lib.IntN.{ℤ, pos, negsuc}
 use lib.Signed.{mag}
 use lib.Ieee.{binary64}
 use lib.Ieee.Bits.{of_bits-to_bits}
+use mir.Syntax.{w64}
 use mir.Facts.{to_z-of_z}
 use borrow.Author.Tests.{leb-true}
 use Rattle.plexil.specs.declared.Worked.{Worked}
@@ -30,5 +31,5 @@ unfolding encode decode known real_in if◌then◌else◌
 read_back unknown = refl
 read_back (bool {b = true}) = refl
 read_back (bool {b = false}) = refl
-read_back (int {z = z} r) = ap Int (to_z-of_z (record { sfits = in-range z r }))
+read_back (int {z = z} r) = ap Int (to_z-of_z {w = w64} (record { sfits = in-range z r }))
 read_back (real {x = x} f g) = rw (f, of_bits-to_bits binary64 x g, f)

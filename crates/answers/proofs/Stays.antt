@@ -15,7 +15,7 @@ use Rattle.plexil.specs.Lists.{if◌then◌else◌, every}
 use Rattle.plexil.specs.Values.{says}
 use Rattle.plexil.specs.Image.{Image}
 use Rattle.plexil.specs.Places.{same, status_at, seen}
-use Rattle.plexil.specs.Atomic.{is_off, is_closing, parent_status, condition, holds, fails, from_waiting, failure_or, at_end, settled, from_ended, by_status, move_by, move_of}
+use Rattle.plexil.specs.Atomic.{is_off, is_closing, parent_status, holds, fails, from_waiting, failure_or, at_end, settled, from_ended, by_status, move_by, move_of}
 use Rattle.plexil.specs.Micro.{stays}
 use Rattle.answers.specs.Reads.{asked, SameStay, StaysStill}
 

@@ -13,7 +13,7 @@ use Rattle.plexil.specs.Expressions.{Leaf, constant_op, variable_op, lookup_op, 
 use Rattle.plexil.specs.Promises.{IsAdmitted, IsKept}
 use Rattle.plexil.proofs.EntryKinds.{Each, each_map, operands-lower}
 use Rattle.answers.specs.Table.{answer}
-use Rattle.answers.specs.Changes.{up, Covers, Unchanged, leaf_touched, touched_by, touched, Untouched}
+use Rattle.answers.specs.Changes.{up, Covers, leaf_touched, touched_by, touched, Untouched}
 use Rattle.answers.proofs.Steady.{value-answers}
 use Rattle.answers.proofs.Filling.{answer-tells}
 

@@ -5,7 +5,7 @@ use Rattle.plexil.specs.Image.{Image, expr_count, operand_a, operand_b}
 use Rattle.plexil.specs.Places.{Seen}
 use Rattle.plexil.specs.Expressions.{Leaf, constant_op, variable_op, lookup_op, status_op, outcome_op, failure_op, Operator, leaf, not_op, binary, no_operator, operator_at, value_of}
 use Rattle.plexil.specs.Promises.{IsAdmitted}
-use Rattle.answers.specs.Table.{Below, HasCell, answer}
+use Rattle.answers.specs.Table.{HasCell, answer}
 
 -- the flag of place k is up
 unfoldable pub up : List ℕ → ℕ → Bool

@@ -1,18 +1,12 @@
 -- Below e the table is that of the new state, from e on that of the old one.
-use Prim.Native.Nat.{ℕ, ◌<◌, ◌-◌}
-use mathlib.Core.Path.{◌≡◌, ◌∙◌}
-use native.Mathlib.Omega.{arith}
-use lib.ListN.{length, length-set}
-use borrow.Author.Rules.{rules}
+use Prim.Native.Nat.{◌-◌}
+use mathlib.Core.Path.{◌≡◌}
+use lib.ListN.{length}
 use Rattle.plexil.specs.declared.State.{State}
-use Rattle.plexil.specs.Image.{expr_count}
 use Rattle.plexil.specs.Places.{seen, seen_of}
 use Rattle.plexil.specs.Promises.{IsKept}
-use Rattle.plexil.proofs.Admitted.{few-entries}
-use Rattle.image.proofs.Laws.{exprs_at-below}
 use Rattle.answers.specs.Table.{IsTable}
 use Rattle.answers.specs.Changes.{Covers, Unchanged, Outside, Upto}
-use Rattle.answers.proofs.Renewing.{cell-read, upto-start, upto_next, upto-end, flags-start, flags-next, flags-end}
 use Rattle.answers.proofs.renewal.refresh.Given as goal
 
 abbrev pub invariant-loop-e : goal.invariant-loop-e

@@ -1,18 +1,11 @@
 -- After e turns the first e entries are answered, so that the operands of entry e are.
-use Prim.Native.Nat.{ℕ, ◌≤◌, ◌<◌, ◌-◌}
-use mathlib.Core.Path.{◌≡◌, ap, ◌∙◌}
-use native.Mathlib.Omega.{arith}
-use lib.ListN.{length, length-set}
-use borrow.Author.Rules.{rules}
+use Prim.Native.Nat.{◌≤◌, ◌-◌}
+use mathlib.Core.Path.{◌≡◌}
+use lib.ListN.{length}
 use Rattle.plexil.specs.declared.State.{State}
-use Rattle.plexil.specs.Values.{encode}
-use Rattle.plexil.specs.Image.{expr_count}
 use Rattle.plexil.specs.Places.{seen, seen_of}
 use Rattle.plexil.specs.Promises.{IsKept}
-use Rattle.plexil.proofs.Admitted.{few-entries}
-use Rattle.image.proofs.Laws.{exprs_at-below}
 use Rattle.answers.specs.Table.{Below}
-use Rattle.answers.proofs.Filling.{below_none, below_next, below_all, worked-out}
 use Rattle.answers.proofs.table.fill.Given as goal
 
 abbrev pub invariant-loop-e : goal.invariant-loop-e

@@ -2,12 +2,11 @@
 use borrow.Author.Rules.{rules}
 use native.Mathlib.Omega.{arith}
 use mathlib.Core.Path.{◌≡◌}
-use mathlib.Core.Logic.{⊎_elim}
-use Prim.Native.Nat.{◌≤◌, ◌-◌}
 use Rattle.plexil.specs.Image.{node_count}
 use Rattle.plexil.specs.Atomic.{is_finished, is_resting}
-use Rattle.atomic.proofs.ChildLaws.{Row, row-start, row-skip, row-set, row-end}
+use Rattle.atomic.proofs.ChildLaws.{row-start, row-skip, row-set, row-end}
 use Rattle.atomic.proofs.children.test_children.Goals as goal
+use Rattle.atomic.proofs.children.test_children.Goals.{else-q-lt256, then-q-lt256}
 
 pub loop-j-init : goal.loop-j-init
 loop-j-init c = (search rules, c.node_count-n.ensures, row-start _ _ is_finished, row-start _ _ is_resting)
@@ -16,14 +15,8 @@ pub loop-j-preserved : goal.loop-j-preserved
 loop-j-preserved c = (
   search rules,
   c.loop-j.invariant.1,
-  ⊎_elim
-      (λ w. rw w.1 (row-set _ _ is_finished _ _ c.parent-q.ensures w.0.taken c.status_at-a.ensures c.is_finished-f.ensures c.loop-j.invariant.2))
-      (λ w. rw w.1 (row-skip _ _ is_finished _ _ c.parent-q.ensures w.0.left c.loop-j.invariant.2))
-      c.if-q-lt256.branch,
-  ⊎_elim
-      (λ w. rw w.2 (row-set _ _ is_resting _ _ c.parent-q.ensures w.0.taken c.status_at-a.ensures c.is_resting-r.ensures c.loop-j.invariant.3))
-      (λ w. rw w.2 (row-skip _ _ is_resting _ _ c.parent-q.ensures w.0.left c.loop-j.invariant.3))
-      c.if-q-lt256.branch,
+  elim c.if-q-lt256.branch [ then-q-lt256 w ↦ rw w.finished-is (row-set _ _ is_finished _ _ c.parent-q.ensures w.if-q-lt256.true c.status_at-a.ensures c.is_finished-f.ensures c.loop-j.invariant.2) | else-q-lt256 w ↦ rw w.finished-is (row-skip _ _ is_finished _ _ c.parent-q.ensures w.if-q-lt256.false c.loop-j.invariant.2) ],
+  elim c.if-q-lt256.branch [ then-q-lt256 w ↦ rw w.resting-is (row-set _ _ is_resting _ _ c.parent-q.ensures w.if-q-lt256.true c.status_at-a.ensures c.is_resting-r.ensures c.loop-j.invariant.3) | else-q-lt256 w ↦ rw w.resting-is (row-skip _ _ is_resting _ _ c.parent-q.ensures w.if-q-lt256.false c.loop-j.invariant.3) ],
 )
 
 pub returns : goal.returns

@@ -1,12 +1,9 @@
 -- After j nodes each row of flags has the answer of the nodes below j; what is left of the nodes falls.
-use borrow.Author.Rules.{rules}
-use native.Mathlib.Omega.{arith}
 use mathlib.Core.Path.{◌≡◌}
-use mathlib.Core.Logic.{⊎_elim}
 use Prim.Native.Nat.{◌≤◌, ◌-◌}
 use Rattle.plexil.specs.Image.{node_count}
 use Rattle.plexil.specs.Atomic.{is_finished, is_resting}
-use Rattle.atomic.proofs.ChildLaws.{Row, row-start, row-skip, row-set, row-end}
+use Rattle.atomic.proofs.ChildLaws.{Row}
 use Rattle.atomic.proofs.children.test_children.Given as goal
 
 abbrev pub invariant-loop-j : goal.invariant-loop-j

@@ -1,0 +1,16 @@
+-- The count is that of the words of the nodes below i; what is left of the nodes falls.
+use mathlib.Core.Path.{◌≡◌, refl, ap, ◌∙◌}
+use Rattle.micro.proofs.WordLaws.{sent_words, count_none, count-one}
+use borrow.Author.Rules.{rules}
+use Prim.Native.Nat.{ℕ, ◌≤◌, ◌-◌}
+use mathlib.Core.Logic.{⊎_elim}
+use native.Mathlib.Omega.{arith}
+use lib.ListN.{length, get_or}
+use Rattle.plexil.specs.Micro.{words_from}
+use Rattle.micro.proofs.words.count_words.Given as goal
+
+abbrev pub invariant-loop-i : goal.invariant-loop-i
+invariant-loop-i l = (l.i ≤ l.n) × (l.count ≤ l.i) × (l.count ≡ length (words_from (λ (k : ℕ). get_or l.sent k 0) 0 l.i))
+
+abbrev pub decreases-loop-i : goal.decreases-loop-i
+decreases-loop-i l = l.n - l.i

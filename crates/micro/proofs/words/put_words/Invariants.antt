@@ -1,0 +1,18 @@
+-- The list's part begins with the words of the nodes below i; what is left of the nodes falls.
+use mathlib.Core.Path.{◌≡◌, refl, sym, ap, ◌∙◌}
+use lib.ListN.{length-set, length, get_or}
+use Rattle.micro.proofs.WordLaws.{sent_words, count_none, count-one, list-none, list-one, has_room}
+use borrow.Author.Rules.{rules}
+use Prim.Native.Nat.{ℕ, ◌≤◌, ◌-◌}
+use mathlib.Core.Logic.{⊎_elim}
+use native.Mathlib.Omega.{arith}
+use Rattle.plexil.specs.Lists.{put}
+use Rattle.plexil.specs.Micro.{words_from}
+use Rattle.plexil.proofs.PutLaws.{put-none}
+use Rattle.micro.proofs.words.put_words.Given as goal
+
+abbrev pub invariant-loop-i : goal.invariant-loop-i
+invariant-loop-i l = (l.i ≤ l.n) × (l.at ≡ length (words_from (λ (k : ℕ). get_or l.sent k 0) 0 l.i)) × (l.list ≡ put l.initial.list 0 (words_from (λ (k : ℕ). get_or l.sent k 0) 0 l.i)) × (length l.list ≡ length l.initial.list)
+
+abbrev pub decreases-loop-i : goal.decreases-loop-i
+decreases-loop-i l = l.n - l.i
