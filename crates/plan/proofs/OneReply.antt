@@ -1,5 +1,5 @@
 -- Each reader's contract permits one reply.
-use mathlib.Core.Path.{◌≡◌, sym, ◌∙◌}
+use mathlib.Core.Path.{sym, ◌∙◌}
 use Rattle.plan.specs.Permits.{NodePermits, ExpressionPermits, VariablePermits, LookupPermits, OneOpened, OneRecord}
 
 pub one-opened : OneOpened

@@ -1,5 +1,5 @@
 -- Each entry's contract permits one reply.
-use mathlib.Core.Path.{◌≡◌, sym, ◌∙◌}
+use mathlib.Core.Path.{sym, ◌∙◌}
 use Rattle.plexil.specs.Replies.{RunReply}
 use Rattle.samblokur.specs.Permits.{ListLeaves, OneCheck, OneFresh, OneList, OneRun, OneTurn}
 

@@ -2,10 +2,9 @@
 use mathlib.Core.Path.{◌≡◌, refl, ap, ◌∙◌}
 use Rattle.micro.proofs.WordLaws.{sent_words, count_none, count-one}
 use borrow.Author.Rules.{rules}
-use Prim.Native.Nat.{ℕ, ◌≤◌, ◌-◌}
-use mathlib.Core.Logic.{⊎_elim}
+use Prim.Native.Nat.{ℕ}
 use native.Mathlib.Omega.{arith}
-use lib.ListN.{length, get_or}
+use lib.ListN.{length}
 use Rattle.plexil.specs.Micro.{words_from}
 use Rattle.micro.proofs.words.count_words.Goals as goal
 use Rattle.micro.proofs.words.count_words.Goals.{else-sent-i-ne0, then-sent-i-ne0}

@@ -1,10 +1,6 @@
 -- The count is that of the words of the nodes below i; what is left of the nodes falls.
-use mathlib.Core.Path.{◌≡◌, refl, ap, ◌∙◌}
-use Rattle.micro.proofs.WordLaws.{sent_words, count_none, count-one}
-use borrow.Author.Rules.{rules}
+use mathlib.Core.Path.{◌≡◌}
 use Prim.Native.Nat.{ℕ, ◌≤◌, ◌-◌}
-use mathlib.Core.Logic.{⊎_elim}
-use native.Mathlib.Omega.{arith}
 use lib.ListN.{length, get_or}
 use Rattle.plexil.specs.Micro.{words_from}
 use Rattle.micro.proofs.words.count_words.Given as goal

@@ -1,10 +1,9 @@
 -- The list's part begins with the words of the nodes below i; what is left of the nodes falls.
 use mathlib.Core.Path.{◌≡◌, refl, sym, ap, ◌∙◌}
-use lib.ListN.{length-set, length, get_or}
+use lib.ListN.{length-set}
 use Rattle.micro.proofs.WordLaws.{sent_words, count_none, count-one, list-none, list-one, has_room}
 use borrow.Author.Rules.{rules}
-use Prim.Native.Nat.{ℕ, ◌≤◌, ◌-◌}
-use mathlib.Core.Logic.{⊎_elim}
+use Prim.Native.Nat.{ℕ}
 use native.Mathlib.Omega.{arith}
 use Rattle.plexil.specs.Lists.{put}
 use Rattle.plexil.specs.Micro.{words_from}

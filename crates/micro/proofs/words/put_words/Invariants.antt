@@ -1,14 +1,9 @@
 -- The list's part begins with the words of the nodes below i; what is left of the nodes falls.
-use mathlib.Core.Path.{◌≡◌, refl, sym, ap, ◌∙◌}
-use lib.ListN.{length-set, length, get_or}
-use Rattle.micro.proofs.WordLaws.{sent_words, count_none, count-one, list-none, list-one, has_room}
-use borrow.Author.Rules.{rules}
+use mathlib.Core.Path.{◌≡◌}
+use lib.ListN.{length, get_or}
 use Prim.Native.Nat.{ℕ, ◌≤◌, ◌-◌}
-use mathlib.Core.Logic.{⊎_elim}
-use native.Mathlib.Omega.{arith}
 use Rattle.plexil.specs.Lists.{put}
 use Rattle.plexil.specs.Micro.{words_from}
-use Rattle.plexil.proofs.PutLaws.{put-none}
 use Rattle.micro.proofs.words.put_words.Given as goal
 
 abbrev pub invariant-loop-i : goal.invariant-loop-i

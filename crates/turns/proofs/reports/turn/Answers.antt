@@ -1,0 +1,28 @@
+-- By what the tests answer; the run is on what the event leaves.
+use borrow.Author.Rules.{rules}
+use Rattle.plexil.specs.Promises.{Sized}
+use Rattle.turns.proofs.ReplyLaws.{turn-passes, turn-goes, turn-refused}
+use Rattle.turns.proofs.reports.turn.Goals as goal
+use Rattle.turns.proofs.reports.turn.Goals.{Start}
+
+-- what owning the state tells
+whole : (c : goal.Start) → Sized c.args.state
+whole c = record {
+  status = search rules;
+  outcome = search rules;
+  failure = search rules;
+  mark = search rules;
+  vartags = search rules;
+  varbits = search rules;
+  looktags = search rules;
+  lookbits = search rules;
+}
+
+pub run_steps-requires : goal.run_steps-requires
+run_steps-requires c = turn-passes _ _ _ _ c.args.list.now _ c.turn_test-t.ensures c.in-Accepted.is (whole (goal.at.run_steps-requires c).Start) c.entered-told.ensures
+
+pub returns-in-Accepted : goal.returns-in-Accepted
+returns-in-Accepted c = turn-goes _ _ _ _ _ _ _ c.turn_test-t.ensures c.in-Accepted.is c.entered-told.ensures c.card_after-after.ensures c.run_steps.ensures.0 c.run_steps.ensures.1
+
+pub returns-in-Refused : goal.returns-in-Refused
+returns-in-Refused c = turn-refused _ _ _ _ _ _ _ c.turn_test-t.ensures _ c.in-Refused.is c.refused.ensures
