@@ -11,7 +11,7 @@ use lib.Seq.{get_or-set_same, get_or-set_other}
 use borrow.Author.Tests.{ne_eqb, ltb-true, leb-true, not-false}
 use Rattle.plexil.specs.declared.Condition.{Condition}
 use Rattle.plexil.specs.declared.Rule.TheVariants as rule
-use Rattle.plexil.specs.Lists.{if◌then◌else◌, every}
+use Rattle.plexil.specs.Lists.{when◌then◌else◌, every}
 use Rattle.plexil.specs.Image.{Image, node_count, expr_count, var_count, parent, node_type, condition_field, value_field, owner, operator, operand_a, operand_b}
 use Rattle.plexil.specs.Expressions.{Operator, leaf, not_op, binary, no_operator, operator_of, operator_at}
 use Rattle.plexil.specs.Records.{is_assignment, good_count, good_parent, good_node, good_variable, reads, good_leaf, good_operator, good_expression}
@@ -28,37 +28,37 @@ use Rattle.admit.proofs.Scope.{tree-variable, tree-leaf, tree-not, tree-binary}
 
 -- ---- what is asked, by its number
 pub allows-node : (p : Image) (o i : ℕ) → (o ≡ 0 → ⊥) → (o ≡ nobody → ⊥) → allows p o i ≡ is_above p (suc i) (o - 1) i
-unfolding allows if◌then◌else◌
+unfolding allows when◌then◌else◌
 allows-node p o i h g = rw (ne_eqb o 0 h, ne_eqb o nobody g) refl
 
 pub allows-by : (p : Image) (o i : ℕ) (r : Bool) → (o ≡ 0 → ⊥) → (o ≡ nobody → ⊥) → r ≡ is_above p (i + 1) (o - 1) i → r ≡ allows p o i
 allows-by p o i r h g e = e ∙ rw (add-one i) (sym (allows-node p o i h g))
 
 pub allows-nothing : (p : Image) (o i : ℕ) → o ≡ 0 → allows p o i ≡ true
-unfolding allows if◌then◌else◌
+unfolding allows when◌then◌else◌
 allows-nothing p o i h = rw h refl
 
 pub allows-nobody : (p : Image) (o i : ℕ) → o ≡ nobody → allows p o i ≡ false
-unfolding allows if◌then◌else◌
+unfolding allows when◌then◌else◌
 allows-nobody p o i h = rw h refl
 
 -- ---- both of two tests
 pub both_first : (x y : Bool) → x ≡ true → y ≡ every (x ∷ y ∷ [])
-unfolding every if◌then◌else◌
+unfolding every when◌then◌else◌
 both_first x true e = rw e refl
 both_first x false e = rw e refl
 
 pub both-second : (x y : Bool) → y ≡ true → x ≡ every (x ∷ y ∷ [])
-unfolding every if◌then◌else◌
+unfolding every when◌then◌else◌
 both-second true y e = rw e refl
 both-second false y e = refl
 
 pub both_false : (x y : Bool) → x ≡ false → false ≡ every (x ∷ y ∷ [])
-unfolding every if◌then◌else◌
+unfolding every when◌then◌else◌
 both_false x y e = rw e refl
 
 pub both-false' : (x y : Bool) → y ≡ false → false ≡ every (x ∷ y ∷ [])
-unfolding every if◌then◌else◌
+unfolding every when◌then◌else◌
 both-false' true y e = rw e refl
 both-false' false y e = refl
 

@@ -6,7 +6,7 @@ use mathlib.Core.List.{[], ◌∷◌}
 use native.Mathlib.Omega.{arith}
 use lib.Dec.{eqb}
 use borrow.Author.Tests.{eq-eqb, ne_eqb}
-use Rattle.plexil.specs.Lists.{if◌then◌else◌, every, some}
+use Rattle.plexil.specs.Lists.{when◌then◌else◌, every, some}
 use Rattle.plexil.specs.Image.{Image, parent, operator, operand_a, operand_b}
 use Rattle.plexil.specs.Expressions.{Operator, operator_of, operator_at}
 use Rattle.plexil.specs.Scope.{is_above, in_scope, entry_in_scope, operands_pass, tree_in_scope}
@@ -52,12 +52,12 @@ module _ (p : Image) (i d e : ℕ) (deep : d ≡ 0 → ⊥) {op : ℕ} (is : op 
   step = ap (λ (k : ℕ). tree_in_scope p i k e) {x = d} {y = suc (d - 1)} (omega (arith, deep)) ∙ ap both (sym is)
 
   pub tree-variable : op ≡ 1 → tree_in_scope p i d e ≡ in_scope p i (operand_a p e)
-  unfolding both operands operator_of operands_pass every some if◌then◌else◌
+  unfolding both operands operator_of operands_pass every some when◌then◌else◌
   tree-variable h = step ∙ rw h (if-same _ ∙ if-same _)
 
   -- an entry that reads no variable
   step-on : (op ≡ 1 → ⊥) → {o : Operator} → operator_of op ≡ o → tree_in_scope p i d e ≡ operands o
-  unfolding both every some if◌then◌else◌
+  unfolding both every some when◌then◌else◌
   step-on h q = step ∙ rw (ne_eqb op 1 h, q) (if-same _)
 
   pub tree-leaf : op < 6 → (op ≡ 1 → ⊥) → tree_in_scope p i d e ≡ true

@@ -1,7 +1,7 @@
 -- Rule 12 by a table: what the variables of each entry's tree ask of the node that reads them, as one number.
 use Rattle.std.specs.Prelude.{ℕ, suc, ◌-◌, ◌≤◌, ◌<◌, ◌≡◌, Bool, true, false, List, eqb, length, get_or}
 use Rattle.plexil.specs.declared.Rule.TheVariants as rule
-use Rattle.plexil.specs.Lists.{if◌then◌else◌, nowhere}
+use Rattle.plexil.specs.Lists.{when◌then◌else◌, nowhere}
 use Rattle.plexil.specs.Image.{Image, node_count}
 use Rattle.plexil.specs.Scope.{is_above, tree_in_scope}
 use Rattle.records.specs.Broken.{lowest_broken}
@@ -12,7 +12,7 @@ nobody = 257
 
 -- 0 asks nothing, o asks that node i is node o - 1 or below it
 unfoldable pub allows : Image → ℕ → ℕ → Bool
-allows p o i = if eqb o 0 then true else (if eqb o nobody then false else is_above p (suc i) (o - 1) i)
+allows p o i = when eqb o 0 then true else (when eqb o nobody then false else is_above p (suc i) (o - 1) i)
 
 -- o is what the tree at e asks
 abbrev pub Asks : Image → ℕ → ℕ → Type 0

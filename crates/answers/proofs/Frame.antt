@@ -10,7 +10,7 @@ use Rattle.plexil.specs.declared.Status.{Status}
 use Rattle.plexil.specs.declared.Status.TheVariants.{Inactive, Waiting, Executing, Finishing, Failing, IterationEnded, Finished}
 use Rattle.plexil.specs.declared.Condition.{Condition}
 use Rattle.plexil.specs.declared.Condition.TheVariants.{Skip, Start, Pre, Inv, End, Post, Repeat}
-use Rattle.plexil.specs.Lists.{if◌then◌else◌, some, all_below}
+use Rattle.plexil.specs.Lists.{when◌then◌else◌, some, all_below}
 use Rattle.plexil.specs.Values.{says}
 use Rattle.plexil.specs.Image.{Image, default, node_count, parent, condition_field}
 use Rattle.plexil.specs.Places.{status_at, seen}
@@ -56,7 +56,7 @@ module _ (p : Image) (s t : State) (i : ℕ) (f : children p s i is_finished ≡
 
   pub condition-same : (c : Condition) → (eqb (condition_field p i c) default ≡ false → value_of p (seen s) (condition_field p i c) ≡ value_of p (seen t) (condition_field p i c))
       → condition p (seen s) i c ≡ condition p (seen t) i c
-  unfolding condition if◌then◌else◌
+  unfolding condition when◌then◌else◌
   condition-same c v = by (eqb (condition_field p i c) default) refl
     where
       by : (b : Bool) → eqb (condition_field p i c) default ≡ b → condition p (seen s) i c ≡ condition p (seen t) i c
@@ -73,7 +73,7 @@ all_below-same (suc n) f g h =
 -- j is another's child, or stands alike in both
 module _ (p : Image) (s t : State) (i : ℕ) (f : Status → Bool) where
   pub children-same : ((j : ℕ) → j < node_count p → eqb (parent p j) i ≡ true → status_at s j ≡ status_at t j) → children p s i f ≡ children p t i f
-  unfolding children_by some if◌then◌else◌ status_at
+  unfolding children_by some when◌then◌else◌ status_at
   children-same h = all_below-same (node_count p) _ _ (λ j b. by j b (eqb (parent p j) i) refl)
     where
       by : (j : ℕ) → j < node_count p → (c : Bool) → eqb (parent p j) i ≡ c

@@ -13,7 +13,7 @@ use mir.Facts.{to_z-of_z}
 use borrow.Author.Tests.{leb-true}
 use Rattle.plexil.specs.declared.Worked.{Worked}
 use Rattle.plexil.specs.declared.Worked.TheVariants.{Int}
-use Rattle.plexil.specs.Lists.{if◌then◌else◌}
+use Rattle.plexil.specs.Lists.{when◌then◌else◌}
 use Rattle.plexil.specs.Values.{in_range, real_in, known, decode, encode}
 use Rattle.plexil.specs.Kinds.{Has, unknown, bool, int, real}
 
@@ -27,7 +27,7 @@ in-range (pos n) h = omega (arith, leb-true n (2 ^ 63 - 1) h)
 in-range (negsuc n) h = omega (arith, leb-true n (2 ^ 63 - 1) (first (leb n (2 ^ 63 - 1)) h))
 
 pub read_back : {k : ℕ} {x : Worked} → Has k x → decode (encode x).tag (encode x).bits ≡ x
-unfolding encode decode known real_in if◌then◌else◌
+unfolding encode decode known real_in when◌then◌else◌
 read_back unknown = refl
 read_back (bool {b = true}) = refl
 read_back (bool {b = false}) = refl

@@ -11,7 +11,7 @@ use Rattle.plexil.specs.declared.Condition.TheVariants.{Skip, Start, Inv, End}
 use Rattle.plexil.specs.declared.Effect.{Effect}
 use Rattle.plexil.specs.declared.Move.{Move}
 use Rattle.plexil.specs.declared.Move.TheVariants.{Stay, Go}
-use Rattle.plexil.specs.Lists.{if◌then◌else◌, every}
+use Rattle.plexil.specs.Lists.{when◌then◌else◌, every}
 use Rattle.plexil.specs.Values.{says}
 use Rattle.plexil.specs.Image.{Image}
 use Rattle.plexil.specs.Places.{same, status_at, seen}
@@ -25,22 +25,22 @@ go-stays h = false≢true (ap stays h)
 
 -- the third test is not come to
 third-unread : (a b c : Status) (e f g : Effect) (k l m n : Bool)
-    → (if k then Go a e else if l then (if m then Go b f else Go c g) else Stay) ≡ Stay
-    → (if k then Go a e else if l then (if n then Go b f else Go c g) else Stay) ≡ Stay
-unfolding if◌then◌else◌
+    → (when k then Go a e else when l then (when m then Go b f else Go c g) else Stay) ≡ Stay
+    → (when k then Go a e else when l then (when n then Go b f else Go c g) else Stay) ≡ Stay
+unfolding when◌then◌else◌
 third-unread a b c e f g true l m n q = absurd (go-stays q)
 third-unread a b c e f g false true true n q = absurd (go-stays q)
 third-unread a b c e f g false true false n q = absurd (go-stays q)
 third-unread a b c e f g false false m n q = refl
 
 -- a move under a test stays as it did, if the move does
-under : (b : Bool) (x y : Move) → (x ≡ Stay → y ≡ Stay) → (if b then x else Stay) ≡ Stay → (if b then y else Stay) ≡ Stay
-unfolding if◌then◌else◌
+under : (b : Bool) (x y : Move) → (x ≡ Stay → y ≡ Stay) → (when b then x else Stay) ≡ Stay → (when b then y else Stay) ≡ Stay
+unfolding when◌then◌else◌
 under true x y f h = f h
 under false x y f h = refl
 
-past : (b : Bool) (a : Status) (e : Effect) (x y : Move) → (x ≡ Stay → y ≡ Stay) → (if b then Go a e else x) ≡ Stay → (if b then Go a e else y) ≡ Stay
-unfolding if◌then◌else◌
+past : (b : Bool) (a : Status) (e : Effect) (x y : Move) → (x ≡ Stay → y ≡ Stay) → (when b then Go a e else x) ≡ Stay → (when b then Go a e else y) ≡ Stay
+unfolding when◌then◌else◌
 past true a e x y f h = absurd (go-stays h)
 past false a e x y f h = f h
 

@@ -5,7 +5,7 @@ use mathlib.Core.Bool.{Bool, true, false, true≢false}
 use mathlib.Core.List.{List, [], ◌∷◌}
 use Rattle.plexil.specs.declared.Worked.{Worked}
 use Rattle.plexil.specs.declared.State.{State}
-use Rattle.plexil.specs.Lists.{if◌then◌else◌, some}
+use Rattle.plexil.specs.Lists.{when◌then◌else◌, some}
 use Rattle.plexil.specs.Values.{not_of, decode}
 use Rattle.plexil.specs.Image.{Image, expr_count}
 use Rattle.plexil.specs.Places.{Seen, seen}
@@ -19,12 +19,12 @@ use Rattle.answers.proofs.Filling.{answer-tells}
 
 -- ---- no test of two passes
 neither-first : (a b : Bool) → some (a ∷ b ∷ []) ≡ false → a ≡ false
-unfolding some if◌then◌else◌
+unfolding some when◌then◌else◌
 neither-first true b h = absurd (true≢false h)
 neither-first false b h = refl
 
 neither-second : (a b : Bool) → some (a ∷ b ∷ []) ≡ false → b ≡ false
-unfolding some if◌then◌else◌
+unfolding some when◌then◌else◌
 neither-second true b h = absurd (true≢false h)
 neither-second false true h = absurd (true≢false h)
 neither-second false false h = refl

@@ -10,7 +10,7 @@ use lib.Signed.{mag, lt_z, non_neg}
 use mir.Syntax.{w64}
 use mir.Val.{Fits, SFits, to_z, of_z}
 use mir.Facts.{to_z-of_z}
-use Rattle.plexil.specs.Lists.{if◌then◌else◌}
+use Rattle.plexil.specs.Lists.{when◌then◌else◌}
 use Rattle.plexil.specs.Values.{in_range, int_in, eq_z}
 use Rattle.plexil.specs.declared.Worked.TheVariants as w
 
@@ -110,17 +110,17 @@ in-range (pos n) h = rw (le-leb n (2 ^ 63 - 1) (omega arith))
 in-range (negsuc n) h = rw (le-leb n (2 ^ 63 - 1) (omega arith))
 
 pub above-range : (z : ℤ) → 2 ^ 63 + dn z ≤ up z → w.Unknown ≡ int_in z
-unfolding in_range int_in if◌then◌else◌
+unfolding in_range int_in when◌then◌else◌
 above-range (pos n) h = rw (lt-leb n (2 ^ 63 - 1) (omega arith))
 above-range (negsuc n) h = absurd (omega arith)
 
 pub below-range : (z : ℤ) → 2 ^ 63 + up z < dn z → w.Unknown ≡ int_in z
-unfolding in_range int_in if◌then◌else◌
+unfolding in_range int_in when◌then◌else◌
 below-range (pos n) h = absurd (omega arith)
 below-range (negsuc n) h = rw (lt-leb n (2 ^ 63 - 1) (omega arith))
 
 pub int-back : {z : ℤ} → SFits w64 z → w.Int (seen z) ≡ int_in z
-unfolding int_in if◌then◌else◌
+unfolding int_in when◌then◌else◌
 int-back {z} f = rw (in-range z f.sfits, to_z-of_z f)
 
 -- ---- the bits of a number below 0, and how far it is from 0

@@ -10,7 +10,7 @@ use lib.Signed.{lt_z}
 use mir.Syntax.{w64}
 use mir.Val.{SFits}
 use mir.Facts.{to_z-of_z}
-use Rattle.plexil.specs.Lists.{if◌then◌else◌}
+use Rattle.plexil.specs.Lists.{when◌then◌else◌}
 use Rattle.plexil.specs.Values.{int_in, in_range}
 use Rattle.plexil.specs.declared.Worked.TheVariants as w
 use Rattle.arithmetic.proofs.Integers.{seen, of-seen, neg-up, neg-dn, fits-of, above-range, below-range, int-back}
@@ -59,7 +59,7 @@ module _ {x y : ℤ} {p q : ℕ} (fx : SFits w64 x) (fy : SFits w64 y) (ep : p �
   sizes = ap (λ k. k * q) ep ∙ ap (λ k. nat_abs (seen x) * k) eq
 
   pub zero-size : p ≡ 0 → w.Int (pos 0) ≡ int_in (x *ℤ y)
-  unfolding int_in in_range if◌then◌else◌
+  unfolding int_in in_range when◌then◌else◌
   zero-size h = subst (λ z. w.Int (pos 0) ≡ int_in (z *ℤ y)) (zero_of (seen x) (sym ep ∙ h) ∙ to_z-of_z fx) (ap int_in (sym (zero-*ℤ y)))
     where
       zero_of : (z : ℤ) → nat_abs z ≡ 0 → pos 0 ≡ z

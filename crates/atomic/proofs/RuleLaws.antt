@@ -9,7 +9,7 @@ use Rattle.plexil.specs.declared.Status.TheVariants.{Inactive}
 use Rattle.plexil.specs.declared.Place.{Place}
 use Rattle.plexil.specs.declared.Move.TheVariants.{Go}
 use Rattle.plexil.specs.declared.Effect.TheVariants.{Cleared}
-use Rattle.plexil.specs.Lists.{if◌then◌else◌, every}
+use Rattle.plexil.specs.Lists.{when◌then◌else◌, every}
 use Rattle.plexil.specs.Places.{Seen, same, status_at, mark_at}
 use Rattle.plexil.proofs.ListLaws.{if-true, if-false, stands}
 use Rattle.plexil.proofs.TestLaws.{eq_yes, eq_no}
@@ -49,11 +49,11 @@ marked s i e h z = eq_no (mark-is s i e h) refl z
 -- ---- the first rule that applies
 module _ (p : Image) (s : State) (i : ℕ) {own u : Status} {b : Bool} (a : own ≡ status_at s i) (e : u ≡ parent_status p s i)
     (h : b ≡ every (not (same own Inactive) ∷ is_off u ∷ [])) where
-  under : move_of p s i ≡ (if every (not (same own Inactive) ∷ is_off u ∷ []) then Go Inactive Cleared else by_status own u p s i)
+  under : move_of p s i ≡ (when every (not (same own Inactive) ∷ is_off u ∷ []) then Go Inactive Cleared else by_status own u p s i)
   unfolding move_of move_by
   under =
-      ap (λ (x : Status). if every (not (same x Inactive) ∷ is_off (parent_status p s i) ∷ []) then Go Inactive Cleared else by_status x (parent_status p s i) p s i) (sym a)
-      ∙ ap (λ (x : Status). if every (not (same own Inactive) ∷ is_off x ∷ []) then Go Inactive Cleared else by_status own x p s i) (sym e)
+      ap (λ (x : Status). when every (not (same x Inactive) ∷ is_off (parent_status p s i) ∷ []) then Go Inactive Cleared else by_status x (parent_status p s i) p s i) (sym a)
+      ∙ ap (λ (x : Status). when every (not (same own Inactive) ∷ is_off x ∷ []) then Go Inactive Cleared else by_status own x p s i) (sym e)
 
   pub cut_off : b ≡ true → Go Inactive Cleared ≡ move_of p s i
   cut_off t = sym (under ∙ if-true _ _ _ (sym h ∙ t))

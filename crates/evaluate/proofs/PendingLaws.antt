@@ -11,7 +11,7 @@ use lib.Seq.{get_or-set_same, get_or-set_other}
 use borrow.Author.Tests.{ne_eqb, lt-ltb, le-ltb}
 use Rattle.plexil.specs.declared.Worked.{Worked}
 use Rattle.plexil.specs.declared.Worked.TheVariants.{Clash}
-use Rattle.plexil.specs.Lists.{if◌then◌else◌}
+use Rattle.plexil.specs.Lists.{when◌then◌else◌}
 use Rattle.plexil.specs.Values.{not_of}
 use Rattle.plexil.specs.Image.{Image}
 use Rattle.plexil.specs.Places.{Seen}
@@ -22,15 +22,15 @@ use Rattle.evaluate.specs.Pending.{ended_of, resumed, turns_of, turns_to_end, pe
 -- ---- a pending operator ends
 module _ (p : Image) (s : Seen) (left b : ℕ) (x v : Worked) where
   pub ended-not : ended_of p s left 6 b x v ≡ not_of v
-  unfolding ended_of if◌then◌else◌
+  unfolding ended_of when◌then◌else◌
   ended-not = refl
 
   pub ended-first : (op : ℕ) → (op ≡ 6 → ⊥) → op < 16 → ended_of p s left op b x v ≡ join_of (operator_of op) v (eval_of p s left b)
-  unfolding ended_of if◌then◌else◌
+  unfolding ended_of when◌then◌else◌
   ended-first op h l = rw (ne_eqb op 6 h, lt-ltb op 16 l)
 
   ended-second : (op : ℕ) → 16 ≤ op → ended_of p s left op b x v ≡ join_of (operator_of (op - 16)) x v
-  unfolding ended_of if◌then◌else◌
+  unfolding ended_of when◌then◌else◌
   ended-second op l = rw (ne_eqb op 6 (λ (e : op ≡ 6). omega arith), le-ltb op 16 l)
 
 -- ---- what is pending below n is told by the places below n
@@ -104,26 +104,26 @@ module _ (p : Image) (s : Seen) (ops seconds : List ℕ) (firsts : List Worked) 
 -- ---- and the turns that are left
 module _ (ops : List ℕ) (n left : ℕ) where
   push-turns : (op : ℕ) → n < length ops → op < 16 → pending_turns (suc n) (set ops n op) left ≤ turns_of left + 2 + pending_turns n ops (suc left)
-  unfolding pending_turns turns_to_end if◌then◌else◌
+  unfolding pending_turns turns_to_end when◌then◌else◌
   push-turns op h l =
       rw (get_or-set_same ops n op 0 h, turns-alike n (set ops n op) ops (suc left) (alike_set 0 ops n n op (omega arith)), lt-ltb op 16 l)
       (by (eqb op 6))
     where
-      by : (t : Bool) → (if t then 1 else turns_of left + 2) + pending_turns n ops (suc left) ≤ turns_of left + 2 + pending_turns n ops (suc left)
+      by : (t : Bool) → (when t then 1 else turns_of left + 2) + pending_turns n ops (suc left) ≤ turns_of left + 2 + pending_turns n ops (suc left)
       by true = omega arith
       by false = omega arith
 
   pop-turns : pending_turns n ops (suc left) < pending_turns (suc n) ops left
-  unfolding pending_turns turns_to_end if◌then◌else◌
+  unfolding pending_turns turns_to_end when◌then◌else◌
   pop-turns = by (eqb (get_or ops n 0) 6) (ltb (get_or ops n 0) 16)
     where
-      by : (t u : Bool) → pending_turns n ops (suc left) < (if t then 1 else (if u then turns_of left + 2 else 1)) + pending_turns n ops (suc left)
+      by : (t u : Bool) → pending_turns n ops (suc left) < (when t then 1 else (when u then turns_of left + 2 else 1)) + pending_turns n ops (suc left)
       by true u = omega arith
       by false true = omega arith
       by false false = omega arith
 
   turn-turns : (op : ℕ) → n < length ops → get_or ops n 0 ≡ op → (op ≡ 6 → ⊥) → op < 16 → turns_of left + pending_turns (suc n) (set ops n (op + 16)) left < pending_turns (suc n) ops left
-  unfolding pending_turns turns_to_end if◌then◌else◌
+  unfolding pending_turns turns_to_end when◌then◌else◌
   turn-turns op h e d l =
       rw (
         get_or-set_same ops n (op + 16) 0 h,
@@ -143,12 +143,12 @@ some-turns (suc d) = omega arith
 
 -- ---- each turn of the loop leaves fewer
 pub up-less : (down : Bool) (left k : ℕ) → down ≡ true → current_turns false left + k < current_turns down left + k
-unfolding current_turns if◌then◌else◌
+unfolding current_turns when◌then◌else◌
 up-less down left k e = rw e (omega (arith, some-turns left))
 
 pub push-less : (down : Bool) (ops : List ℕ) (n left op : ℕ) → down ≡ true → (left ≡ 0 → ⊥) → n < length ops → op < 16
     → current_turns down (left - 1) + pending_turns (n + 1) (set ops n op) (left - 1) < current_turns down left + pending_turns n ops left
-unfolding current_turns if◌then◌else◌ turns_of
+unfolding current_turns when◌then◌else◌ turns_of
 push-less down ops n left op e deep h l =
     rw (e, add-one n) (by (left - 1) (above left deep))
   where
@@ -163,7 +163,7 @@ module _ (down : Bool) (ops : List ℕ) (n left : ℕ) (e : down ≡ false) (som
   is-top n g = omega (arith, g)
 
   pub pop-less : current_turns down (left + 1) + pending_turns (n - 1) ops (left + 1) < current_turns down left + pending_turns n ops left
-  unfolding current_turns if◌then◌else◌
+  unfolding current_turns when◌then◌else◌
   pop-less = rw (e, add-one left) (omega (arith, by (n - 1) (is-top n some)))
     where
       by : (k : ℕ) → n ≡ suc k → pending_turns k ops (suc left) < pending_turns n ops left
@@ -171,7 +171,7 @@ module _ (down : Bool) (ops : List ℕ) (n left : ℕ) (e : down ≡ false) (som
 
   pub turn-less : n ≤ length ops → (get_or ops (n - 1) 0 ≡ 6 → ⊥) → get_or ops (n - 1) 0 < 16
       → current_turns true left + pending_turns n (set ops (n - 1) (get_or ops (n - 1) 0 + 16)) left < current_turns down left + pending_turns n ops left
-  unfolding current_turns if◌then◌else◌
+  unfolding current_turns when◌then◌else◌
   turn-less h o l = rw e (omega (arith, by (n - 1) (is-top n some) o l))
     where
       by : (k : ℕ) → n ≡ suc k → (get_or ops k 0 ≡ 6 → ⊥) → get_or ops k 0 < 16 → turns_of left + pending_turns n (set ops k (get_or ops k 0 + 16)) left < pending_turns n ops left

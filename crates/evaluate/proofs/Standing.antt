@@ -10,7 +10,7 @@ use lib.Dec.{eqb}
 use borrow.Author.Tests.{eqb-true, eqb-false}
 use Rattle.plexil.specs.declared.Worked.{Worked}
 use Rattle.plexil.specs.declared.Worked.TheVariants.{Clash}
-use Rattle.plexil.specs.Lists.{if◌then◌else◌}
+use Rattle.plexil.specs.Lists.{when◌then◌else◌}
 use Rattle.plexil.specs.Values.{not_of}
 use Rattle.plexil.specs.Bytes.{byte_at, le16}
 use Rattle.plexil.specs.Image.{Image, exprs_at, expr_at, operator, operand_a, operand_b}
@@ -85,7 +85,7 @@ module _ (p : Image) (s : Seen) (d e : ℕ) {base op : ℕ} (deep : d ≡ 0 → 
 module _ (p : Image) (s : Seen) (e₀ : ℕ) {ops seconds : List ℕ} {firsts : List Worked} {n left e : ℕ} {v : Worked} where
   -- the entry has the value r
   up : Standing p s e₀ ops seconds firsts n left true e v → (r : Worked) → (r ≡ eval_of p s left e) → Standing p s e₀ ops seconds firsts n left false e r
-  unfolding current if◌then◌else◌
+  unfolding current when◌then◌else◌
   up h r g = record {
     operators = h.operators;
     entries = h.entries;
@@ -108,7 +108,7 @@ module _ (p : Image) (s : Seen) (e₀ : ℕ) {ops seconds : List ℕ} {firsts : 
 
     pub at-operator : Standing p s e₀ ops seconds firsts n left true e v → (op < 6 → ⊥) → op ≤ 14 → (a b : ℕ) → a ≡ le16 p (base + 16 * e + 2) → b ≡ le16 p (base + 16 * e + 4)
         → Standing p s e₀ (set ops n op) (set seconds n b) firsts (n + 1) (left - 1) true a v
-    unfolding current if◌then◌else◌
+    unfolding current when◌then◌else◌
     at-operator h l g a b ea eb = record {
       operators = length-set ops n op ∙ h.operators;
       entries = length-set seconds n b ∙ h.entries;
@@ -130,19 +130,19 @@ module _ (p : Image) (s : Seen) (e₀ : ℕ) {ops seconds : List ℕ} {firsts : 
 
   -- nothing is pending
   pub at-end : Standing p s e₀ ops seconds firsts n left false e v → n ≡ 0 → v ≡ value_of p s e₀
-  unfolding current if◌then◌else◌ resumed
+  unfolding current when◌then◌else◌ resumed
   at-end h z = rw z at h.answers
 
   module _ (h : Standing p s e₀ ops seconds firsts n left false e v) (some : n ≡ 0 → ⊥) where
     on-top : resumed p s (suc (n - 1)) ops seconds firsts left v ≡ value_of p s e₀
-    unfolding current if◌then◌else◌
+    unfolding current when◌then◌else◌
     on-top = ap (λ (k : ℕ). resumed p s k ops seconds firsts left v) (top-is n some) ∙ h.answers
       where
         top-is : (n : ℕ) → (n ≡ 0 → ⊥) → suc (n - 1) ≡ n
         top-is n g = omega (arith, g)
 
     down-one : (r : Worked) → (resumed p s (n - 1) ops seconds firsts (suc left) r ≡ value_of p s e₀) → Standing p s e₀ ops seconds firsts (n - 1) (left + 1) false e r
-    unfolding current if◌then◌else◌
+    unfolding current when◌then◌else◌
     down-one r g = record {
       operators = h.operators;
       entries = h.entries;
@@ -160,7 +160,7 @@ module _ (p : Image) (s : Seen) (e₀ : ℕ) {ops seconds : List ℕ} {firsts : 
 
     pub ends-first : (get_or ops (n - 1) 0 ≡ 6 → ⊥) → get_or ops (n - 1) 0 < 16
         → Standing p s e₀ (set ops (n - 1) (get_or ops (n - 1) 0 + 16)) seconds (set firsts (n - 1) v) n left true (get_or seconds (n - 1) 0) v
-    unfolding current if◌then◌else◌
+    unfolding current when◌then◌else◌
     ends-first o l = record {
       operators = length-set ops (n - 1) (get_or ops (n - 1) 0 + 16) ∙ h.operators;
       entries = h.entries;

@@ -1,6 +1,6 @@
 // What a leaf answers. A place past an array's end holds 0.
 ghost use Rattle.std.specs.Prelude.{◌≡◌, eqb, get_or};
-ghost use Rattle.plexil.specs.Lists.{if◌then◌else◌};
+ghost use Rattle.plexil.specs.Lists.{when◌then◌else◌};
 ghost use Rattle.plexil.specs.Values.{known, decode};
 ghost use Rattle.plexil.specs.declared.Worked.TheVariants as w;
 
@@ -22,7 +22,7 @@ fn word(words: &[u64], k: u16) -> u64
 
 // "b = 1 known, b = 0 Unknown with constant 0"
 pub fn constant(b: u16, kind: u8, bits: u64) -> Worked
-    ensures { result ≡ (if eqb b 1 then known kind bits else w.Unknown) }
+    ensures { result ≡ (when eqb b 1 then known kind bits else w.Unknown) }
 {
     if b == 1 {
         values::known(kind, bits)

@@ -6,7 +6,7 @@ use Rattle.plexil.specs.declared.State.{State}
 use Rattle.plexil.specs.declared.RunAnswer.{RunAnswer}
 use Rattle.plexil.specs.declared.Tested.{Tested}
 use Rattle.plexil.specs.declared.Tested.TheVariants.{Refused}
-use Rattle.plexil.specs.Lists.{if◌then◌else◌, Found, at, nowhere}
+use Rattle.plexil.specs.Lists.{when◌then◌else◌, Found, at, nowhere}
 use Rattle.plexil.specs.Image.{Image}
 use Rattle.plexil.specs.Places.{state_of}
 use Rattle.plexil.specs.Macro.{form, index, good_form, or_else, with_lookup, with_mark, enter, entered, form_of}
@@ -31,10 +31,10 @@ pub found_none : {r : code.Found} {x : Found} → found_of r ≡ x → r ≡ ans
 found_none e q = sym (ap found_of q) ∙ e
 
 -- ---- a refusal by one test, and else the other answer
-pub refused : (b : Bool) (x y : Tested) → b ≡ false → x ≡ (if not b then x else y)
+pub refused : (b : Bool) (x y : Tested) → b ≡ false → x ≡ (when not b then x else y)
 refused b x y e = sym (if-true (not b) x y (ap not e))
 
-pub goes-on : (b : Bool) (x y : Tested) {r : Tested} → b ≡ true → r ≡ y → r ≡ (if not b then x else y)
+pub goes-on : (b : Bool) (x y : Tested) {r : Tested} → b ≡ true → r ≡ y → r ≡ (when not b then x else y)
 goes-on b x y e h = h ∙ sym (if-false (not b) x y (ap not e))
 
 -- ---- an entry by its form

@@ -10,7 +10,7 @@ use lib.ListN.{get_or, length, drop, drop_of_length-le}
 use lib.Seq.{drop-cons}
 use borrow.Author.Tests.{eq-eqb, ne_eqb}
 use Rattle.plexil.specs.declared.Cell.{Cell}
-use Rattle.plexil.specs.Lists.{if◌then◌else◌, every, all_in}
+use Rattle.plexil.specs.Lists.{when◌then◌else◌, every, all_in}
 use Rattle.plexil.specs.Values.{good_bits}
 use Rattle.plexil.specs.Form.{zero_from, good_cell, has_kind}
 use Rattle.plexil.proofs.TestLaws.{told}
@@ -18,20 +18,20 @@ use Rattle.plexil.proofs.ListLaws.{if-same, not-both, every-nil}
 
 -- ---- tests one after the other in two parts
 pub part-fails : (bs cs : List Bool) → every bs ≡ false → false ≡ every (bs ++ cs)
-unfolding every if◌then◌else◌
+unfolding every when◌then◌else◌
 part-fails [] cs h = absurd (not-both _ every-nil h)
 part-fails (true ∷ bs) cs h = part-fails bs cs h
 part-fails (false ∷ bs) cs h = refl
 
 pub part_then : (bs cs : List Bool) {r : Bool} → every bs ≡ true → r ≡ every cs → r ≡ every (bs ++ cs)
-unfolding every if◌then◌else◌
+unfolding every when◌then◌else◌
 part_then [] cs e h = h
 part_then (true ∷ bs) cs e h = part_then bs cs e h
 part_then (false ∷ bs) cs e h = absurd (not-both _ e refl)
 
 -- one test that decides, inside tests that pass
-pub decides : (b : Bool) → b ≡ (if (if b then true else false) then true else false)
-decides b = sym (if-same (if b then true else false) ∙ if-same b)
+pub decides : (b : Bool) → b ≡ (when (when b then true else false) then true else false)
+decides b = sym (if-same (when b then true else false) ∙ if-same b)
 
 -- ---- a loop over the places from n on: those before k hold 0
 abbrev is_zero : ℕ → Bool

@@ -1,7 +1,7 @@
 -- The whole reply of a step into a list's part, and the part at its exit.
 use Rattle.std.specs.Prelude.{ℕ, List, length, leb}
 use Rattle.plexil.specs.declared.State.{State}
-use Rattle.plexil.specs.Lists.{if◌then◌else◌, put}
+use Rattle.plexil.specs.Lists.{when◌then◌else◌, put}
 use Rattle.plexil.specs.Image.{Image}
 use Rattle.plexil.specs.Micro.{step, words, quiet}
 use Rattle.micro.specs.declared.steps.Stepped.{Stepped}
@@ -9,8 +9,8 @@ use Rattle.micro.specs.declared.steps.StepEnd.TheVariants.{Quiet, NoRoom, Done}
 
 unfoldable pub stepped_of : Image → State → List ℕ → Stepped
 stepped_of p s part =
-    if quiet p s then record { end = Quiet; words = 0; state = s } else if leb (length (words p s)) (length part) then record { end = Done; words = length (words p s); state = step p s } else record { end = NoRoom; words = 0; state = s }
+    when quiet p s then record { end = Quiet; words = 0; state = s } else when leb (length (words p s)) (length part) then record { end = Done; words = length (words p s); state = step p s } else record { end = NoRoom; words = 0; state = s }
 
 -- "32 NoRoom": a step whose words do not fit writes nothing
 unfoldable pub part_after : Image → State → List ℕ → List ℕ
-part_after p s part = if quiet p s then part else if leb (length (words p s)) (length part) then put part 0 (words p s) else part
+part_after p s part = when quiet p s then part else when leb (length (words p s)) (length part) then put part 0 (words p s) else part

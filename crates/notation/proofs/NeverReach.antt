@@ -13,7 +13,7 @@ use Rattle.plexil.specs.declared.Condition.{Condition}
 use Rattle.plexil.specs.declared.Rule.TheVariants.{Tree, Deep, Reach}
 use Rattle.plexil.specs.declared.Verdict.TheVariants.{Refused}
 use Rattle.plexil.specs.Lists as Lists
-use Rattle.plexil.specs.Lists.{if◌then◌else◌, every, Found, at, nowhere}
+use Rattle.plexil.specs.Lists.{when◌then◌else◌, every, Found, at, nowhere}
 use Rattle.plexil.specs.Bytes.{le16}
 use Rattle.plexil.specs.Image as Image
 use Rattle.plexil.specs.Records.{good_parent, is_assignment, all_conditions}
@@ -135,7 +135,7 @@ module _ (d : Draft) (fit : Fits d) where
       module _ (deep : (e : ℕ) → e < length d.entries → shallow p e ≡ true) (good : NodesGood d.entries 0 d.nodes) (bodies : BodiesCovered d.mentions 0 d.nodes) where
         -- a condition of node i
         condition-scoped : (i : ℕ) (c : Condition) → i < length d.nodes → Lists.some (eqb (Image.condition_field p i c) 65535 ∷ tree_in_scope p i 12 (Image.condition_field p i c) ∷ []) ≡ true
-        unfolding Lists.some if◌then◌else◌
+        unfolding Lists.some when◌then◌else◌
         condition-scoped i c l =
             go (given-at d.entries i (node_of i).given (nth c) (subst (λ (j : ℕ). GivenGood d.entries j (node_of i).given) (zero-add i) (nodes-at d.entries 0 d.nodes i good l).0)
             (omega (arith, nth-low c, seven_at d.nodes i fit.seven l)))
@@ -152,7 +152,7 @@ module _ (d : Draft) (fit : Fits d) where
 
         -- an assignment of node i
         value-scoped : (i : ℕ) → i < length d.nodes → if_assignment p i (every (tree_in_scope p i 12 (Image.value_field p i) ∷ in_scope p i (Image.what p i) ∷ [])) ≡ true
-        unfolding if_assignment is_assignment Lists.some if◌then◌else◌ Image.value_field Image.what
+        unfolding if_assignment is_assignment Lists.some when◌then◌else◌ Image.value_field Image.what
         value-scoped i l =
             go (node_of i).body refl (type-field d fit i l) (subst (λ (j : ℕ). ValueGood d.entries j (node_of i).body) (zero-add i) (nodes-at d.entries 0 d.nodes i good l).1)
             (subst (λ (j : ℕ). BodyCovered d.mentions j (node_of i).body) (zero-add i) (bodies-at d.mentions 0 d.nodes i bodies l))

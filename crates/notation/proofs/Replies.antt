@@ -12,7 +12,7 @@ use Rattle.plexil.specs.declared.Rule.{Rule}
 use Rattle.plexil.specs.declared.Rule.TheVariants.{Short, Edition, Count, Layout, Tree, Node, Variable, Lookup, Expression, Deep, Kind, Reach}
 use Rattle.plexil.specs.declared.Verdict.{Verdict}
 use Rattle.plexil.specs.declared.Verdict.TheVariants.{Admitted, Refused}
-use Rattle.plexil.specs.Lists.{if◌then◌else◌, Found, at, nowhere}
+use Rattle.plexil.specs.Lists.{when◌then◌else◌, Found, at, nowhere}
 use Rattle.plexil.specs.Check.{rule_number, verdict}
 use Rattle.plexil.proofs.ReplyLaws.{rule-range}
 use Rattle.grammar.specs.Table.{Said}
@@ -60,14 +60,14 @@ module _ (u old : List ℕ) where
     by-check (Refused r i) t n c m e = is_refused (rule_number r) i (λ z. absurd (omega (arith, rule-range r))) (λ z. never-reach l (plans-phrased u l says) n c i (e ∙ ap (λ q. Refused q i) (twelfth r z)))
 
     by-room : (b : Bool) → too_deep (draft_of l).nodes ≡ nowhere → bad_name (draft_of l) ≡ nowhere → within_counts (draft_of l) ≡ true → ltb (length old) (image_length (draft_of l)) ≡ b
-        → Outcome u old (if b then refused 43 0 old else judged (verdict (image_of (draft_of l))) (image_of (draft_of l)) old)
-    unfolding if◌then◌else◌
+        → Outcome u old (when b then refused 43 0 old else judged (verdict (image_of (draft_of l))) (image_of (draft_of l)) old)
+    unfolding when◌then◌else◌
     by-room true t n c e = is_refused 43 0 (λ z. absurd (omega arith)) (λ z. absurd (omega arith))
     by-room false t n c e = by-check (verdict (image_of (draft_of l))) t n c (nltb→le (length old) (image_length (draft_of l)) (rw e tt)) refl
 
     by-counts : (b : Bool) → too_deep (draft_of l).nodes ≡ nowhere → bad_name (draft_of l) ≡ nowhere → within_counts (draft_of l) ≡ b
-        → Outcome u old (if b then (if ltb (length old) (image_length (draft_of l)) then refused 43 0 old else judged (verdict (image_of (draft_of l))) (image_of (draft_of l)) old) else refused 3 0 old)
-    unfolding if◌then◌else◌
+        → Outcome u old (when b then (when ltb (length old) (image_length (draft_of l)) then refused 43 0 old else judged (verdict (image_of (draft_of l))) (image_of (draft_of l)) old) else refused 3 0 old)
+    unfolding when◌then◌else◌
     by-counts true t n e = by-room (ltb (length old) (image_length (draft_of l))) t n e refl
     by-counts false t n e = is_refused 3 0 (λ z. absurd (omega arith)) (λ z. absurd (omega arith))
 

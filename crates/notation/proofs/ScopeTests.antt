@@ -9,7 +9,7 @@ use lib.Dec.{eqb, leb}
 use Rattle.plexil.specs.declared.Condition.{Condition}
 use Rattle.plexil.specs.declared.Condition.TheVariants.{Skip, Start, Pre, Inv, End, Post, Repeat}
 use Rattle.plexil.specs.Lists as Lists
-use Rattle.plexil.specs.Lists.{if◌then◌else◌, every}
+use Rattle.plexil.specs.Lists.{when◌then◌else◌, every}
 use Rattle.plexil.specs.Image as Image
 use Rattle.plexil.specs.Expressions.{operator_at, operator_of}
 use Rattle.plexil.specs.Scope.{operands_pass, in_scope, entry_in_scope, tree_in_scope}
@@ -17,15 +17,15 @@ use Rattle.notation.specs.Draft.{Binary, or, and, eq, lt, le, add, sub, mul}
 use Rattle.notation.specs.Mapping.{binary_code}
 
 pub seven-true : {f : Condition → Bool} → ((c : Condition) → f c ≡ true) → every (f Skip ∷ f Start ∷ f Pre ∷ f Inv ∷ f End ∷ f Post ∷ f Repeat ∷ []) ≡ true
-unfolding every if◌then◌else◌
+unfolding every when◌then◌else◌
 seven-true h = rw (h Skip, h Start, h Pre, h Inv, h End, h Post, h Repeat) refl
 
 pub every-both : (a b : Bool) → a ≡ true → b ≡ true → every (a ∷ (b ∷ [])) ≡ true
-unfolding every if◌then◌else◌
+unfolding every when◌then◌else◌
 every-both a b x y = rw (x, y) refl
 
 pub some-second : (a b : Bool) → b ≡ true → Lists.some (a ∷ (b ∷ [])) ≡ true
-unfolding Lists.some if◌then◌else◌
+unfolding Lists.some when◌then◌else◌
 some-second true b e = refl
 some-second false b e = rw e refl
 
@@ -34,7 +34,7 @@ unfolding tree_in_scope
 tree-true p i k e x y = every-both _ _ x y
 
 pub other-entry : (p : List ℕ) (i e w : ℕ) → Image.operator p e ≡ w → eqb w 1 ≡ false → entry_in_scope p i e ≡ true
-unfolding entry_in_scope Lists.some if◌then◌else◌
+unfolding entry_in_scope Lists.some when◌then◌else◌
 other-entry p i e w o n = rw (o, n) refl
 
 pub variable-entry : (p : List ℕ) (i e : ℕ) → in_scope p i (Image.operand_a p e) ≡ true → entry_in_scope p i e ≡ true

@@ -3,7 +3,7 @@ use Rattle.std.specs.Prelude.{ℕ, List, [], ◌∷◌, ◌++◌, length, drop, 
 use Rattle.std.proofs.Math.Option.{Option, none, some}
 use Rattle.plexil.specs.declared.Verdict.{Verdict}
 use Rattle.plexil.specs.declared.Verdict.TheVariants.{Admitted, Refused}
-use Rattle.plexil.specs.Lists.{if◌then◌else◌, Found, at, nowhere}
+use Rattle.plexil.specs.Lists.{when◌then◌else◌, Found, at, nowhere}
 use Rattle.plexil.specs.Check.{rule_number, verdict}
 use Rattle.grammar.specs.Text.{start, reach}
 use Rattle.grammar.specs.Table.{sort, Said, grammar, hope_of, text_says}
@@ -45,7 +45,7 @@ judged (Refused r i) p old = refused (rule_number r) i old
 -- 3 Count, and 43 ImageRoom
 unfoldable pub measured : Draft → List ℕ → Reading
 measured d old =
-    if within_counts d then (if ltb (length old) (image_length d) then refused 43 0 old else judged (verdict (image_of d)) (image_of d) old) else refused 3 0 old
+    when within_counts d then (when ltb (length old) (image_length d) then refused 43 0 old else judged (verdict (image_of d)) (image_of d) old) else refused 3 0 old
 
 -- 42 Name
 unfoldable pub named : Found → Draft → List ℕ → Reading

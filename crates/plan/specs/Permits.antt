@@ -4,10 +4,10 @@ use Rattle.std.specs.Borrow.{Bor}
 use Rattle.plexil.specs.Image.{Image}
 use Rattle.plan.specs.declared.Plan.{Plan}
 use Rattle.plan.specs.declared.Opened.{Opened}
-use Rattle.plan.specs.declared.records.NodeAt.{NodeAt}
-use Rattle.plan.specs.declared.records.ExpressionAt.{ExpressionAt}
-use Rattle.plan.specs.declared.records.VariableAt.{VariableAt}
-use Rattle.plan.specs.declared.records.LookupAt.{LookupAt}
+use Rattle.plan.specs.declared.by_number.NodeAt.{NodeAt}
+use Rattle.plan.specs.declared.by_number.ExpressionAt.{ExpressionAt}
+use Rattle.plan.specs.declared.by_number.VariableAt.{VariableAt}
+use Rattle.plan.specs.declared.by_number.LookupAt.{LookupAt}
 use Rattle.plan.specs.View.{opened_of, node_at_of, expression_at_of, variable_at_of, lookup_at_of}
 
 abbrev pub OpenPermits : Bor Image → Opened → Type 0

@@ -2,15 +2,15 @@
 use Rattle.std.specs.Prelude.{ℕ, ltb}
 use Rattle.std.specs.Borrow.{Bor}
 use Rattle.plan.specs.declared.Opened.{Opened}
-use Rattle.plan.specs.declared.records.NodeAt.{NodeAt}
-use Rattle.plan.specs.declared.records.NodeAt.TheVariants as node
-use Rattle.plan.specs.declared.records.ExpressionAt.{ExpressionAt}
-use Rattle.plan.specs.declared.records.ExpressionAt.TheVariants as expression
-use Rattle.plan.specs.declared.records.VariableAt.{VariableAt}
-use Rattle.plan.specs.declared.records.VariableAt.TheVariants as variable
-use Rattle.plan.specs.declared.records.LookupAt.{LookupAt}
-use Rattle.plan.specs.declared.records.LookupAt.TheVariants as lookup
-use Rattle.plexil.specs.Lists.{if◌then◌else◌}
+use Rattle.plan.specs.declared.by_number.NodeAt.{NodeAt}
+use Rattle.plan.specs.declared.by_number.NodeAt.TheVariants as node
+use Rattle.plan.specs.declared.by_number.ExpressionAt.{ExpressionAt}
+use Rattle.plan.specs.declared.by_number.ExpressionAt.TheVariants as expression
+use Rattle.plan.specs.declared.by_number.VariableAt.{VariableAt}
+use Rattle.plan.specs.declared.by_number.VariableAt.TheVariants as variable
+use Rattle.plan.specs.declared.by_number.LookupAt.{LookupAt}
+use Rattle.plan.specs.declared.by_number.LookupAt.TheVariants as lookup
+use Rattle.plexil.specs.Lists.{when◌then◌else◌}
 use Rattle.plexil.specs.Image.{Image}
 use Rattle.plexil.specs.Replies.{check_reply}
 use Rattle.image.specs.Records.{node_record, expr_record, var_record, look_record}
@@ -24,13 +24,13 @@ opened_of image =
     }
 
 unfoldable pub node_at_of : Image → ℕ → ℕ → NodeAt
-node_at_of p n i = if ltb i n then node.Is (node_record p i) else node.Outside
+node_at_of p n i = when ltb i n then node.Is (node_record p i) else node.Outside
 
 unfoldable pub expression_at_of : Image → ℕ → ℕ → ExpressionAt
-expression_at_of p n e = if ltb e n then expression.Is (expr_record p e) else expression.Outside
+expression_at_of p n e = when ltb e n then expression.Is (expr_record p e) else expression.Outside
 
 unfoldable pub variable_at_of : Image → ℕ → ℕ → VariableAt
-variable_at_of p n v = if ltb v n then variable.Is (var_record p v) else variable.Outside
+variable_at_of p n v = when ltb v n then variable.Is (var_record p v) else variable.Outside
 
 unfoldable pub lookup_at_of : Image → ℕ → ℕ → LookupAt
-lookup_at_of p n l = if ltb l n then lookup.Is (look_record p l) else lookup.Outside
+lookup_at_of p n l = when ltb l n then lookup.Is (look_record p l) else lookup.Outside

@@ -1,12 +1,12 @@
 // "An opened plan is a view over the caller's image bytes and copies none of them." Functions over the view are thin: the work is done on slice and number.
 #![tactic(auto)]
 
-mod records;
+mod by_number;
 
 ghost use Rattle.plan.specs.Permits.{OpenPermits, NodePermits, ExpressionPermits, VariablePermits, LookupPermits};
 
+pub use by_number::{ExpressionAt, LookupAt, NodeAt, VariableAt};
 use plexil::{Counts, Verdict};
-pub use records::{ExpressionAt, LookupAt, NodeAt, VariableAt};
 
 // The counts are those of the check: 0 where the image is refused.
 #[derive(Clone, Copy)]
@@ -39,23 +39,23 @@ pub fn open<'a>(image: &'a [u8]) -> Opened<'a>
 pub fn node<'a>(plan: Plan<'a>, i: u16) -> NodeAt
     ensures { NodePermits plan.entry i result }
 {
-    records::node_at(plan.image, plan.counts.nodes, i)
+    by_number::node_at(plan.image, plan.counts.nodes, i)
 }
 
 pub fn expression<'a>(plan: Plan<'a>, e: u16) -> ExpressionAt
     ensures { ExpressionPermits plan.entry e result }
 {
-    records::expression_at(plan.image, plan.counts.exprs, e)
+    by_number::expression_at(plan.image, plan.counts.exprs, e)
 }
 
 pub fn variable<'a>(plan: Plan<'a>, v: u16) -> VariableAt
     ensures { VariablePermits plan.entry v result }
 {
-    records::variable_at(plan.image, plan.counts.vars, v)
+    by_number::variable_at(plan.image, plan.counts.vars, v)
 }
 
 pub fn lookup<'a>(plan: Plan<'a>, l: u16) -> LookupAt
     ensures { LookupPermits plan.entry l result }
 {
-    records::lookup_at(plan.image, plan.counts.looks, l)
+    by_number::lookup_at(plan.image, plan.counts.looks, l)
 }

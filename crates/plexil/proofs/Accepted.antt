@@ -12,7 +12,7 @@ use Rattle.plexil.specs.declared.RunAnswer.{RunAnswer}
 use Rattle.plexil.specs.declared.RunAnswer.TheVariants.{Busy, Shape, Turn, Entry, Twice, NotAwaited}
 use Rattle.plexil.specs.declared.Tested.{Tested}
 use Rattle.plexil.specs.declared.Tested.TheVariants.{Accepted, Refused}
-use Rattle.plexil.specs.Lists.{if◌then◌else◌, Found, at, nowhere}
+use Rattle.plexil.specs.Lists.{when◌then◌else◌, Found, at, nowhere}
 use Rattle.plexil.specs.Image.{Image}
 use Rattle.plexil.specs.Macro.{entry_count, form, good_form, good_entry, not_awaited, or_else, event_answer, form_of}
 use Rattle.plexil.proofs.ListLaws.{every-at, first-nowhere}
@@ -21,8 +21,8 @@ pub not-accepted : (a : RunAnswer) → Refused a ≢ Accepted
 not-accepted a h = let z : ◌≡◌ {A = ℕ} 0 1 = cc in omega arith
 
 -- the tests of 20 to 22 were passed, and no entry was named by 23 to 25
-past : (t : Bool) (a : RunAnswer) (other : Tested) → (if t then Refused a else other) ≡ Accepted → other ≡ Accepted
-unfolding if◌then◌else◌
+past : (t : Bool) (a : RunAnswer) (other : Tested) → (when t then Refused a else other) ≡ Accepted → other ≡ Accepted
+unfolding when◌then◌else◌
 past true a other h = absurd (not-accepted a h)
 past false a other h = h
 

@@ -11,7 +11,7 @@ use borrow.Author.Tests.{ltb-true}
 use Rattle.plexil.specs.declared.Cell.{Cell}
 use Rattle.plexil.specs.declared.State.{State}
 use Rattle.plexil.specs.declared.Place.{Place}
-use Rattle.plexil.specs.Lists.{if◌then◌else◌, every}
+use Rattle.plexil.specs.Lists.{when◌then◌else◌, every}
 use Rattle.plexil.specs.Image.{Image, node_count, var_count, owner}
 use Rattle.plexil.specs.Places.{initial, var_cell, Failure, WriteLost}
 use Rattle.plexil.specs.Records.{is_writer, target, good_what, good_node}
@@ -64,18 +64,18 @@ module _ (p : Image) (s : State) (ok : Fits p) (z : Sized s) (c : Carry) (k : Wa
   settled-after : (v : ℕ) → v < var_count p → settled_var p s c v ≡ var_after p s v
   unfolding settled_var unwritten
   settled-after v b =
-      ap (λ (t : Bool). if every (ltb 0 (best_at c v).top ∷ eqb (best_at c v).tied 0 ∷ []) then (best_at c v).value else if t then initial p v else var_cell s v)
+      ap (λ (t : Bool). when every (ltb 0 (best_at c v).top ∷ eqb (best_at c v).tied 0 ∷ []) then (best_at c v).value else when t then initial p v else var_cell s v)
       (waiting-enters (owner p v) (ok.owners v b))
       ∙ met-settles p s v _ count-nil (best_at c v) (k.met v (omega (arith, ok.variables)))
 
   -- ---- the whole state
-  outcome-after : (i : ℕ) → i < node_count p → (if lost p c i then Failure else get_or c.outcome i 0) ≡ outcome_after p s i
+  outcome-after : (i : ℕ) → i < node_count p → (when lost p c i then Failure else get_or c.outcome i 0) ≡ outcome_after p s i
   unfolding outcome_after
-  outcome-after i b = λ j. if lost-loses i b j then Failure else (place_is i b j).outcome
+  outcome-after i b = λ j. when lost-loses i b j then Failure else (place_is i b j).outcome
 
-  failure-after : (i : ℕ) → i < node_count p → (if lost p c i then WriteLost else get_or c.failure i 0) ≡ failure_after p s i
+  failure-after : (i : ℕ) → i < node_count p → (when lost p c i then WriteLost else get_or c.failure i 0) ≡ failure_after p s i
   unfolding failure_after
-  failure-after i b = λ j. if lost-loses i b j then WriteLost else (place_is i b j).failure
+  failure-after i b = λ j. when lost-loses i b j then WriteLost else (place_is i b j).failure
 
   settle_step : settle p s c ≡ step p s
   unfolding settle step carry_nothing

@@ -10,7 +10,7 @@ use borrow.Author.Tests.{eqb-true}
 use Rattle.plexil.specs.declared.Worked.{Worked}
 use Rattle.plexil.specs.declared.Cell.{Cell}
 use Rattle.plexil.specs.declared.State.{State}
-use Rattle.plexil.specs.Lists.{if◌then◌else◌, every, all_below}
+use Rattle.plexil.specs.Lists.{when◌then◌else◌, every, all_below}
 use Rattle.plexil.specs.Values.{good_bits, cell, encode}
 use Rattle.plexil.specs.Image.{Image, node_count, var_count, look_count, var_kind, look_kind, owner}
 use Rattle.plexil.specs.Places.{var_cell, look_cell, known_cell, initial}
@@ -32,7 +32,7 @@ unknown-kept k = refl
 
 -- a value of kind k is kept as a good cell of kind k
 pub encode-kept : {k : ℕ} {x : Worked} → Has k x → has_kind k (encode x) ≡ true
-unfolding encode has_kind good_cell good_bits every if◌then◌else◌
+unfolding encode has_kind good_cell good_bits every when◌then◌else◌
 encode-kept unknown = refl
 encode-kept (bool {b = true}) = refl
 encode-kept (bool {b = false}) = refl
@@ -40,14 +40,14 @@ encode-kept (int r) = refl
 encode-kept (real {x = x} f g) = rw (f, of_bits-to_bits binary64 x g, f)
 
 pub known_cell-kept : (k w : ℕ) → good_bits k w ≡ true → has_kind k (known_cell k w) ≡ true
-unfolding good_bits has_kind known_cell good_cell every if◌then◌else◌
+unfolding good_bits has_kind known_cell good_cell every when◌then◌else◌
 known_cell-kept zero w g = rw g
 known_cell-kept (suc zero) w g = refl
 known_cell-kept (suc (suc zero)) w g = rw g
 known_cell-kept (suc (suc (suc k))) w g = absurd (false≢true g)
 
-constant-kept : (k b w : ℕ) → good_constant k b w ≡ true → has_kind k (if eqb b 1 then known_cell k w else cell 0 0) ≡ true
-unfolding good_constant if◌then◌else◌
+constant-kept : (k b w : ℕ) → good_constant k b w ≡ true → has_kind k (when eqb b 1 then known_cell k w else cell 0 0) ≡ true
+unfolding good_constant when◌then◌else◌
 constant-kept k zero w g = unknown-kept k
 constant-kept k (suc zero) w g = known_cell-kept k w g
 constant-kept k (suc (suc b)) w g = absurd (false≢true g)

@@ -11,7 +11,7 @@ use Rattle.plexil.specs.declared.Cell.{Cell}
 use Rattle.plexil.specs.declared.State.{State}
 use Rattle.plexil.specs.declared.Card.{Card}
 use Rattle.plexil.specs.declared.Tested.TheVariants.{Accepted}
-use Rattle.plexil.specs.Lists.{if◌then◌else◌, every, some}
+use Rattle.plexil.specs.Lists.{when◌then◌else◌, every, some}
 use Rattle.plexil.specs.Image.{Image, node_count, look_count, look_kind}
 use Rattle.plexil.specs.Values.{cell}
 use Rattle.plexil.specs.Places.{status_at, outcome_at, failure_at, mark_at, var_cell, look_cell}
@@ -59,7 +59,7 @@ module _ (p : Image) (t : State) (k : IsKept p t) where
 
   -- a command's mark
   new-mark : (j : ℕ) → is_command p j ≡ true → is_awaiting (status_at t j) ≡ true → (i : ℕ) → i < node_count p → good_mark p (with_mark t j) i ≡ true
-  unfolding good_mark with_mark status_at mark_at every some if◌then◌else◌
+  unfolding good_mark with_mark status_at mark_at every some when◌then◌else◌
   new-mark j c w i b =
       set-either (λ (x : ℕ). some (eqb x 0 ∷ every (eqb x 1 ∷ is_command p i ∷ is_awaiting (status_at t i) ∷ []) ∷ []) ≡ true) t.mark j i 1
       (λ (q : i ≡ j). rw (q, c, w)) (mark_of p t k i b)

@@ -7,7 +7,7 @@ use native.Mathlib.Omega.{arith}
 use lib.ListN.{get_or, replicate}
 use borrow.Author.Tests.{lt-ltb}
 use Rattle.plexil.specs.declared.Status.TheVariants.{Inactive}
-use Rattle.plexil.specs.Lists.{if◌then◌else◌, every, some}
+use Rattle.plexil.specs.Lists.{when◌then◌else◌, every, some}
 use Rattle.plexil.specs.Values.{cell}
 use Rattle.plexil.specs.Image.{Image, node_count, var_count, look_count, look_kind, parent}
 use Rattle.plexil.specs.Places.{status_of, status_code, same, status_at, outcome_at, failure_at, mark_at, var_cell, look_cell, initial, fresh_state}
@@ -27,12 +27,12 @@ zeros-at (suc n) (suc i) = zeros-at n i
 
 -- ---- the nodes
 under-fresh : (p : Image) (j : ℕ) → allowed (status_at (fresh_state p) j) Inactive ≡ true
-unfolding fresh_state status_at status_of allowed is_closing is_idle same status_code some if◌then◌else◌
+unfolding fresh_state status_at status_of allowed is_closing is_idle same status_code some when◌then◌else◌
 under-fresh p zero = refl
 under-fresh p (suc j) = rw (zeros-at 255 j)
 
 fresh-place : (p : Image) (i : ℕ) → good_place p (fresh_state p) i ≡ true
-unfolding good_place good_mark fresh_state status_at status_of outcome_at failure_at mark_at parent_status allowed is_closing of_type same status_code every some if◌then◌else◌
+unfolding good_place good_mark fresh_state status_at status_of outcome_at failure_at mark_at parent_status allowed is_closing of_type same status_code every some when◌then◌else◌
 fresh-place p zero = refl
 fresh-place p (suc i) = rw (zeros-at 255 i, under-fresh p (parent p (suc i)), lt-ltb 0 (suc i) (omega arith))
 
@@ -53,7 +53,7 @@ status-unused zero b = absurd (omega arith)
 status-unused (suc n) b = zero_from-zeros n 255
 
 fresh-unused : (p : Image) → IsAdmitted p → unused_empty p (fresh_state p) ≡ true
-unfolding unused_empty fresh_state every if◌then◌else◌
+unfolding unused_empty fresh_state every when◌then◌else◌
 fresh-unused p a = simp (status-unused (node_count p) (a-node p a), zero_from-renew, zero_from-zeros)
 
 pub fresh_kept : FreshKept

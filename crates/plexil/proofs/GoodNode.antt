@@ -7,13 +7,13 @@ use lib.Dec.{eqb}
 use borrow.Author.Tests.{ltb-true, eqb-true}
 use Rattle.plexil.specs.declared.Condition.{Condition}
 use Rattle.plexil.specs.declared.Condition.TheVariants.{Skip, Start, Pre, Inv, End, Post, Repeat}
-use Rattle.plexil.specs.Lists.{if◌then◌else◌, some}
+use Rattle.plexil.specs.Lists.{when◌then◌else◌, some}
 use Rattle.plexil.specs.Image.{Image, default, expr_count, node_type, condition_field, value_field}
 use Rattle.plexil.specs.Records.{is_list, is_command, is_assignment, all_conditions, good_condition, good_what, good_node}
 use Rattle.plexil.proofs.ListLaws.{every-at, every-stop, some-cons}
 
 pub some-else : (a b : Bool) → some (a ∷ b ∷ []) ≡ true → a ≡ false → b ≡ true
-unfolding some if◌then◌else◌
+unfolding some when◌then◌else◌
 some-else true b h e = absurd (true≢false e)
 some-else false true h e = refl
 some-else false false h e = h

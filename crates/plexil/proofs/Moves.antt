@@ -9,7 +9,7 @@ use Rattle.plexil.specs.declared.Status.TheVariants.{Inactive, Waiting, Executin
 use Rattle.plexil.specs.declared.Move.{Move}
 use Rattle.plexil.specs.declared.Move.TheVariants.{Stay, Go}
 use Rattle.plexil.specs.declared.Effect.TheVariants.{Kept, Cleared, Skipped as Skips, Failed, Judged}
-use Rattle.plexil.specs.Lists.{if◌then◌else◌}
+use Rattle.plexil.specs.Lists.{when◌then◌else◌}
 use Rattle.plexil.specs.Image.{Image, node_count}
 use Rattle.plexil.specs.Places.{status_of, status_at, Failure, ByPre, ByInvariant, ByParent, seen}
 use Rattle.plexil.specs.Records.{is_list, is_assignment}
@@ -42,7 +42,7 @@ pub data Made (p : Image) (s : State) (i : ℕ) : Status → Status → Move →
   stays : {c u : Status} → Made p s i c u Stay
 
 module _ (p : Image) (s : State) (i : ℕ) where
-  either : {c u : Status} {x y : Move} {b : Bool} → (b ≡ true → Made p s i c u x) → (b ≡ false → Made p s i c u y) → Made p s i c u (if b then x else y)
+  either : {c u : Status} {x y : Move} {b : Bool} → (b ≡ true → Made p s i c u x) → (b ≡ false → Made p s i c u y) → Made p s i c u (when b then x else y)
   either {c} {u} h g = if-either (Made p s i c u) _ _ _ h g
 
   made-failing : (c u : Status) (f : ℕ) → Open c → f < 6 → Made p s i c u (fails_by p i Failure f)

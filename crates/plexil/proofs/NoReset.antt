@@ -12,7 +12,7 @@ use Rattle.plexil.specs.declared.Move.{Move}
 use Rattle.plexil.specs.declared.Move.TheVariants.{Stay, Go}
 use Rattle.plexil.specs.declared.Effect.{Effect}
 use Rattle.plexil.specs.declared.Effect.TheVariants.{Kept, Cleared, Skipped as Skips, Failed, Judged}
-use Rattle.plexil.specs.Lists.{if◌then◌else◌, every, some}
+use Rattle.plexil.specs.Lists.{when◌then◌else◌, every, some}
 use Rattle.plexil.specs.Image.{Image, node_count, parent, owner}
 use Rattle.plexil.specs.Places.{status_code, same, status_at}
 use Rattle.plexil.specs.Records.{is_assignment, is_writer, target}
@@ -35,7 +35,7 @@ is_busy c = some (same c Executing ∷ same c Finishing ∷ same c Failing ∷ [
 -- ---- who writes is busy, who enters Waiting is not
 module _ (p : Image) (s : State) (i : ℕ) where
   judged-busy : (c u a : Status) → Made p s i c u (Go a Judged) → is_busy c ≡ true
-  unfolding is_busy same status_code some if◌then◌else◌
+  unfolding is_busy same status_code some when◌then◌else◌
   judged-busy c u a (ends l) = refl
   judged-busy c u a (closed r) = refl
 
@@ -49,7 +49,7 @@ module _ (p : Image) (s : State) (i : ℕ) where
   busy-by c u (Go a Judged) d h = judged-busy c u a d
 
   waits-unbusy : (c u : Status) (e : Effect) → Made p s i c u (Go Waiting e) → is_busy c ≡ false
-  unfolding is_busy same status_code some if◌then◌else◌
+  unfolding is_busy same status_code some when◌then◌else◌
   waits-unbusy c u e wakes = refl
   waits-unbusy c u e repeats = refl
 
@@ -71,7 +71,7 @@ busy_above : Status → Status → Bool
 busy_above u c = some (not (allowed u c) ∷ some (not (is_busy c) ∷ is_busy u ∷ []) ∷ [])
 
 busy-parent : (u c : Status) → allowed u c ≡ true → is_busy c ≡ true → is_busy u ≡ true
-unfolding busy_above all_statuses allowed is_closing is_idle is_busy same status_code every some if◌then◌else◌
+unfolding busy_above all_statuses allowed is_closing is_idle is_busy same status_code every some when◌then◌else◌
 busy-parent u c a h = given _ _ (given _ _ (each-status (busy_above u) (each-status (λ u. all_statuses (busy_above u)) refl u) c) a) h
 
 busy-up : (p : Image) (s : State) → IsAdmitted p → IsKept p s → (n o i : ℕ) → i < node_count p → is_above p n o i ≡ true → is_busy (status_at s i) ≡ true → is_busy (status_at s o) ≡ true

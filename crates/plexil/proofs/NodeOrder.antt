@@ -7,7 +7,7 @@ use native.Mathlib.Numerals.{add-one}
 use lib.Dec.{ltb}
 use borrow.Author.Tests.{lt-ltb, le-ltb}
 use Rattle.plexil.specs.declared.State.{State}
-use Rattle.plexil.specs.Lists.{if◌then◌else◌, count_from}
+use Rattle.plexil.specs.Lists.{when◌then◌else◌, count_from}
 use Rattle.plexil.specs.Image.{Image, node_count}
 use Rattle.plexil.specs.Micro.{step}
 use Rattle.plexil.specs.Order.{Carry, carry_nothing, visit, walk, walk_to, settle, count, NamesOnce}
@@ -46,18 +46,18 @@ unfolding count_from
 count-before zero i j b = count-nil j
 count-before (suc n) i j b = count-other i j _ (λ e. omega arith) ∙ count-before n (suc i) j (omega arith)
 
-count-from : (n i j : ℕ) → i ≤ j → count j (count_from i (λ k. k) n) ≡ (if ltb j (i + n) then 1 else 0)
+count-from : (n i j : ℕ) → i ≤ j → count j (count_from i (λ k. k) n) ≡ (when ltb j (i + n) then 1 else 0)
 unfolding count_from
 count-from zero i j b = count-nil j ∙ sym (if-false _ 1 0 (le-ltb j (i + 0) (omega arith)))
 count-from (suc n) i j b =
     ⊎_elim
     (λ (e : j ≡ i). rw e (count_same i _ ∙ ap suc (count-before n (suc i) i (omega arith)) ∙ sym (if-true _ 1 0 (lt-ltb i (i + suc n) (omega arith)))))
-    (λ apart. count-other i j _ apart ∙ count-from n (suc i) j (omega arith) ∙ ap (λ (m : ℕ). if ltb j m then 1 else 0) (omega arith))
+    (λ apart. count-other i j _ apart ∙ count-from n (suc i) j (omega arith) ∙ ap (λ (m : ℕ). when ltb j m then 1 else 0) (omega arith))
     (same? j i)
 
 pub node-order-once : (p : Image) → NamesOnce p (count_from 0 (λ k. k) (node_count p))
 unfolding NamesOnce
-node-order-once p j = count-from (node_count p) 0 j (omega arith) ∙ ap (λ (n : ℕ). if ltb j n then 1 else 0) (omega arith)
+node-order-once p j = count-from (node_count p) 0 j (omega arith) ∙ ap (λ (n : ℕ). when ltb j n then 1 else 0) (omega arith)
 
 -- ---- settled
 pub node-order-of : (p : Image) (s : State) → Fits p → Sized s → settle p s (walk_to p s (carry_nothing s) (node_count p)) ≡ step p s

@@ -13,7 +13,7 @@ use borrow.Author.Tests.{ltb-true, ltb-false, le-leb, eqb-true}
 use Rattle.plexil.specs.declared.Worked.{Worked}
 use Rattle.plexil.specs.declared.Worked.TheVariants.{Unknown, Bool as Flag}
 use Rattle.plexil.specs.declared.Cell.{Cell}
-use Rattle.plexil.specs.Lists.{if◌then◌else◌}
+use Rattle.plexil.specs.Lists.{when◌then◌else◌}
 use Rattle.plexil.specs.Values.{in_range, int_in, finite, real_in, known, good_bits, decode, not_of, decides, junction, pair_of, eq_of, numeric}
 use Rattle.plexil.specs.Places.{value_in}
 use Rattle.plexil.specs.Records.{good_constant, is_number}
@@ -50,8 +50,8 @@ known-has (suc zero) w g = int (to_z-in_range w)
 known-has (suc (suc zero)) w g = real_in-has _ (of_bits-fits binary64 w)
 known-has (suc (suc (suc k))) w g = absurd (false≢true g)
 
-pub constant-has : (k b w : ℕ) → good_constant k b w ≡ true → Has k (if eqb b 1 then known k w else Unknown)
-unfolding good_constant if◌then◌else◌
+pub constant-has : (k b w : ℕ) → good_constant k b w ≡ true → Has k (when eqb b 1 then known k w else Unknown)
+unfolding good_constant when◌then◌else◌
 constant-has k zero w g = unknown
 constant-has k (suc zero) w g = known-has k w g
 constant-has k (suc (suc b)) w g = absurd (false≢true g)

@@ -9,7 +9,7 @@ use Rattle.plexil.specs.declared.State.{State}
 use Rattle.plexil.specs.declared.Status.{Status}
 use Rattle.plexil.specs.declared.Status.TheVariants.{Inactive, Waiting, Executing, Finishing, Failing, IterationEnded, Finished}
 use Rattle.plexil.specs.declared.Move.{Move}
-use Rattle.plexil.specs.Lists.{if◌then◌else◌, every, some}
+use Rattle.plexil.specs.Lists.{when◌then◌else◌, every, some}
 use Rattle.plexil.specs.Image.{Image, node_type, node_count, parent}
 use Rattle.plexil.specs.Places.{status_code, same, status_at}
 use Rattle.plexil.specs.Records.{is_list, is_assignment}
@@ -28,7 +28,7 @@ use Rattle.plexil.proofs.Moves.{executing, finishing, Made, resets, wakes, skips
 module _ (p : Image) (s : State) (i : ℕ) where
   -- under a parent that is off a node is Inactive
   gone : (c u : Status) → is_off u ≡ true → same u Executing ≡ false → landing c (move_by c u p s i) ≡ Inactive
-  unfolding landing move_by by_status same status_code every if◌then◌else◌
+  unfolding landing move_by by_status same status_code every when◌then◌else◌
   gone Inactive u o n = rw n
   gone Waiting u o n = rw o
   gone Executing u o n = rw o
@@ -57,7 +57,7 @@ module _ (p : Image) (s : State) (i : ℕ) where
 
   -- an Executing parent wakes it
   awake : (c : Status) → same (landing c (move_by c Executing p s i)) Inactive ≡ false
-  unfolding landing move_by by_status same status_code every some is_off if◌then◌else◌
+  unfolding landing move_by by_status same status_code every some is_off when◌then◌else◌
   awake c = by (tested (same c Inactive))
     where
       by : (same c Inactive ≡ true) ⊎ (same c Inactive ≡ false) → same (landing c (move_by c Executing p s i)) Inactive ≡ false
@@ -66,7 +66,7 @@ module _ (p : Image) (s : State) (i : ℕ) where
 
   -- one that is neither off nor Executing leaves an idle node as it is
   still : (c u : Status) → is_off u ≡ false → same u Executing ≡ false → is_idle c ≡ true → landing c (move_by c u p s i) ≡ c
-  unfolding landing move_by by_status same status_code every if◌then◌else◌ is_idle some
+  unfolding landing move_by by_status same status_code every when◌then◌else◌ is_idle some
   still Inactive u o n h = rw n
   still Waiting u o n h = rw o (ap (landing Waiting) (if-false _ _ _ n))
   still Executing u o n h = absurd (false≢true h)
@@ -86,7 +86,7 @@ Child IterationEnded c d = d ≡ c
 Child Finished c d = d ≡ c
 
 child-becomes : (p : Image) (s : State) (i : ℕ) (u c : Status) → allowed u c ≡ true → Child u c (landing c (move_by c u p s i))
-unfolding allowed is_closing is_off same status_code some if◌then◌else◌
+unfolding allowed is_closing is_off same status_code some when◌then◌else◌
 child-becomes p s i Inactive c a = gone p s i c Inactive refl refl
 child-becomes p s i Waiting c a = gone p s i c Waiting refl refl
 child-becomes p s i Executing c a = awake p s i c
@@ -97,7 +97,7 @@ child-becomes p s i Finished c a = still p s i c Finished refl refl a
 
 -- ---- the parent, of status u under one of status g
 pub off-idle : (g u : Status) → is_off g ≡ true → allowed g u ≡ true → is_idle u ≡ true
-unfolding is_off allowed is_closing same status_code some if◌then◌else◌
+unfolding is_off allowed is_closing same status_code some when◌then◌else◌
 off-idle Inactive u o a = a
 off-idle Waiting u o a = a
 off-idle Executing u o a = absurd (false≢true o)
@@ -108,7 +108,7 @@ off-idle Finished u o a = absurd (false≢true o)
 
 -- under an idle parent a node becomes idle
 idle-child : (u c d : Status) → is_idle u ≡ true → allowed u c ≡ true → Child u c d → is_idle d ≡ true
-unfolding is_idle allowed is_closing same status_code some if◌then◌else◌
+unfolding is_idle allowed is_closing same status_code some when◌then◌else◌
 idle-child Inactive c d h a k = rw k
 idle-child Waiting c d h a k = rw k
 idle-child Executing c d h a k = absurd (false≢true h)
@@ -119,7 +119,7 @@ idle-child Finished c d h a k = rw k a
 
 -- where the parent stays, its child is still allowed
 staying : (u c d : Status) → allowed u c ≡ true → Child u c d → allowed u d ≡ true
-unfolding allowed is_closing is_idle same status_code some if◌then◌else◌
+unfolding allowed is_closing is_idle same status_code some when◌then◌else◌
 staying Inactive c d a k = rw k
 staying Waiting c d a k = rw k
 staying Executing c d a k = refl
@@ -129,7 +129,7 @@ staying IterationEnded c d a k = rw k a
 staying Finished c d a k = rw k a
 
 resting-idle : (c : Status) → is_resting c ≡ true → is_idle c ≡ true
-unfolding is_resting is_idle same status_code some if◌then◌else◌
+unfolding is_resting is_idle same status_code some when◌then◌else◌
 resting-idle Inactive h = refl
 resting-idle Waiting h = refl
 resting-idle Executing h = h
@@ -150,7 +150,7 @@ module _ (p : Image) (s : State) (j : ℕ) (list : is_list p j ≡ true) where
 
   parent-becomes : (c d u g : Status) (m : Move) → Made p s j u g m → allowed g u ≡ true → allowed u c ≡ true
       → (children p s j is_resting ≡ true → is_resting c ≡ true) → Child u c d → allowed (landing u m) d ≡ true
-  unfolding landing allowed is_closing is_idle same status_code some if◌then◌else◌ is_list is_assignment
+  unfolding landing allowed is_closing is_idle same status_code some when◌then◌else◌ is_list is_assignment
   parent-becomes c d u g m (resets o) a b r k = idle-child u c d (off-idle g u o a) b k
   parent-becomes c d u g m wakes a b r k = rw k
   parent-becomes c d u g m skips a b r k = rw k
@@ -173,7 +173,7 @@ unfolding children_by status_at
 child-rests p s i b h = given (eqb (parent p i) (parent p i)) _ (all_below-at (node_count p) _ h i b) (eq-eqb (parent p i) (parent p i) refl)
 
 pub parent-table : FromKept (λ p s. ParentTable p (step p s))
-unfolding parent_status allowed is_closing move_of same status_code some if◌then◌else◌
+unfolding parent_status allowed is_closing move_of same status_code some when◌then◌else◌
 parent-table p s a k zero b = refl
 parent-table p s a k (suc i) b =
     let j = parent p (suc i) in

@@ -13,7 +13,7 @@ use Rattle.plexil.specs.declared.Status.TheVariants.{Inactive, Waiting, Executin
 use Rattle.plexil.specs.declared.Move.{Move}
 use Rattle.plexil.specs.declared.Move.TheVariants.{Stay, Go}
 use Rattle.plexil.specs.declared.Effect.TheVariants.{Kept, Cleared, Skipped as Skips, Failed, Judged}
-use Rattle.plexil.specs.Lists.{if◌then◌else◌, every, some}
+use Rattle.plexil.specs.Lists.{when◌then◌else◌, every, some}
 use Rattle.plexil.specs.Image.{Image, node_type, node_count}
 use Rattle.plexil.specs.Places.{status_code, same, status_at, outcome_at, failure_at, mark_at}
 use Rattle.plexil.specs.Records.{is_list, is_command}
@@ -30,7 +30,7 @@ use Rattle.plexil.proofs.ParentTable.{off-idle, parent-table}
 
 -- ---- codes
 code-small : (c : Status) → ltb (status_code c) 7 ≡ true
-unfolding status_code all_statuses every if◌then◌else◌
+unfolding status_code all_statuses every when◌then◌else◌
 code-small = each-status (λ c. ltb (status_code c) 7) refl
 
 module _ (p : Image) (s : State) (i : ℕ) where
@@ -69,7 +69,7 @@ module _ (p : Image) (s : State) (i : ℕ) where
 
   -- ---- a status of the node's type
   type-kept : (c u : Status) (m : Move) → Made p s i c u m → (is_off u ≡ true → ltb 0 i ≡ true) → of_type p i c ≡ true → of_type p i (landing c m) ≡ true
-  unfolding landing of_type same status_code every some if◌then◌else◌
+  unfolding landing of_type same status_code every some when◌then◌else◌
   type-kept c u m (resets o) n h = rw (n o)
   type-kept c u m wakes n h = refl
   type-kept c u m skips n h = refl
@@ -87,7 +87,7 @@ module _ (p : Image) (s : State) (i : ℕ) where
 
 -- ---- marks
 idle-unawaited : (c : Status) → is_idle c ≡ true → is_awaiting c ≡ false
-unfolding all_statuses is_idle is_awaiting same status_code every some if◌then◌else◌
+unfolding all_statuses is_idle is_awaiting same status_code every some when◌then◌else◌
 idle-unawaited c h = not-true _ (given _ _ (each-status (λ c. some (not (is_idle c) ∷ not (is_awaiting c) ∷ [])) refl c) h)
 
 module _ (p : Image) (s : State) (i : ℕ) where
@@ -105,7 +105,7 @@ module _ (p : Image) (s : State) (i : ℕ) where
   no-command c d n h = some-stop _ _ (or-first _ _ h (every-false _ 1 n))
 
   mark-kept : (c u : Status) (m : Move) → Made p s i c u m → allowed u c ≡ true → markable (mark_at s i) c ≡ true → markable (place_by p s i m).mark (landing c m) ≡ true
-  unfolding landing place_by mark_by markable is_list is_command is_awaiting same status_code some if◌then◌else◌
+  unfolding landing place_by mark_by markable is_list is_command is_awaiting same status_code some when◌then◌else◌
   mark-kept c u m (resets o) a h = no-wait c Inactive (idle-unawaited c (off-idle u c o a)) h
   mark-kept c u m wakes a h = no-wait Inactive Waiting refl h
   mark-kept c u m skips a h = no-wait Waiting Finished refl h
@@ -125,7 +125,7 @@ module _ (p : Image) (s : State) (i : ℕ) where
 -- ---- the place
 -- node 0's parent reads as Executing, which is not off
 off-below : (p : Image) (s : State) (i : ℕ) → is_off (parent_status p s i) ≡ true → ltb 0 i ≡ true
-unfolding parent_status is_off same status_code some if◌then◌else◌
+unfolding parent_status is_off same status_code some when◌then◌else◌
 off-below p s zero h = absurd (false≢true h)
 off-below p s (suc i) h = lt-ltb 0 (suc i) (omega arith)
 

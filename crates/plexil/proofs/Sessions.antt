@@ -6,7 +6,7 @@ use mathlib.Core.List.{List}
 use Rattle.plexil.specs.declared.State.{State}
 use Rattle.plexil.specs.declared.Card.{Card}
 use Rattle.plexil.specs.declared.Tested.TheVariants.{Accepted}
-use Rattle.plexil.specs.Lists.{if◌then◌else◌, every, some}
+use Rattle.plexil.specs.Lists.{when◌then◌else◌, every, some}
 use Rattle.plexil.specs.Image.{Image}
 use Rattle.plexil.specs.Places.{fresh_state, fresh_card}
 use Rattle.plexil.specs.Micro.{step}
@@ -42,7 +42,7 @@ iterate-kept p (suc k) s a g = iterate-kept p k (step p s) a (step_kept p s a g)
 -- the card is Quiet only where the run ended so
 ended-card : (p : Image) (budget count room serial : ℕ) (r : Run) → Ends p budget count room r
     → good_card p r.state (record { serial = serial; phase = phase_after r.end }) ≡ true
-unfolding good_card phase_after every some if◌then◌else◌
+unfolding good_card phase_after every some when◌then◌else◌
 ended-card p budget count room serial r (by-quiet e q) = rw (e, q)
 ended-card p budget count room serial r (by-budget e q n) = rw e
 ended-card p budget count room serial r (by-room e q n w) = rw e
@@ -64,7 +64,7 @@ run-keeps p s c a h budget l start =
 
 -- ---- an event
 running-card : (p : Image) (s : State) (c : Card) → good_card p s (card_after c) ≡ true
-unfolding good_card card_after some if◌then◌else◌
+unfolding good_card card_after some when◌then◌else◌
 running-card p s c = refl
 
 -- what the taking of an event leaves passes 30
@@ -90,7 +90,7 @@ pub record InSession (p : Image) (s : State) (c : Card) : Type 0 where
   pub passes : Passes p s c
 
 fresh-card : (p : Image) (s : State) → good_card p s fresh_card ≡ true
-unfolding good_card fresh_card some if◌then◌else◌
+unfolding good_card fresh_card some when◌then◌else◌
 fresh-card p s = refl
 
 pub session-kept : (p : Image) (s : State) (c : Card) → Session p s c → InSession p s c

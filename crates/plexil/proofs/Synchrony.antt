@@ -11,7 +11,7 @@ use Rattle.plexil.specs.declared.Status.{Status}
 use Rattle.plexil.specs.declared.Effect.{Effect}
 use Rattle.plexil.specs.declared.Move.{Move}
 use Rattle.plexil.specs.declared.Move.TheVariants.{Stay, Go}
-use Rattle.plexil.specs.Lists.{if◌then◌else◌}
+use Rattle.plexil.specs.Lists.{when◌then◌else◌}
 use Rattle.plexil.specs.Image.{Image, node_count, owner}
 use Rattle.plexil.specs.Records.{target}
 use Rattle.plexil.specs.Places.{outcome_at, failure_at, mark_at, var_cell, initial}
@@ -47,11 +47,11 @@ module _ (p : Image) (s : State) where
   stay-keeps i e = every-stop _ _ (every-false _ 1 (ap judges e))
 
   settled-lost : (i : ℕ) → loses p s i ≡ true → stepped p s i ≡ as_loser (place p s i)
-  unfolding outcome_after failure_after if◌then◌else◌
+  unfolding outcome_after failure_after when◌then◌else◌
   settled-lost i h = rw h
 
   settled-kept : (i : ℕ) → loses p s i ≡ false → stepped p s i ≡ place p s i
-  unfolding outcome_after failure_after if◌then◌else◌
+  unfolding outcome_after failure_after when◌then◌else◌
   settled-kept i h = rw h
 
   -- variable v has a sole writer among the nodes below n, or none
@@ -105,18 +105,18 @@ module _ (p : Image) (Γ : Environment) (π : Program) (i : ℕ) (b : i < node_c
 -- ---- a variable
 module _ (p : Image) (Γ : Environment) (π : Program) (v : ℕ) where
   unwritten-is : ((i : ℕ) → Sole p (joined Γ π) v i → ⊥) → (t : Bool) → enters_waiting (move_of p (joined Γ π) (owner p v)) ≡ t
-      → var_after p (joined Γ π) v ≡ (if t then initial p v else cell_at π v)
+      → var_after p (joined Γ π) v ≡ (when t then initial p v else cell_at π v)
   unfolding unwritten var_cell
-  unwritten-is none t e = var_after-unwritten p (joined Γ π) v none ∙ ap (λ (x : Bool). if x then initial p v else cell_at π v) e
+  unwritten-is none t e = var_after-unwritten p (joined Γ π) v none ∙ ap (λ (x : Bool). when x then initial p v else cell_at π v) e
 
   pub memory-is : (c : Cell) → MemoryAfter p Γ π v c → c ≡ var_after p (joined Γ π) v
-  unfolding if◌then◌else◌
+  unfolding when◌then◌else◌
   memory-is c (enters i sole e) = e ∙ sym (var_after-sole p (joined Γ π) v i sole)
   memory-is c (returns none w e) = e ∙ sym (unwritten-is none true w)
   memory-is c (MemoryAfter.stays none w e) = e ∙ sym (unwritten-is none false w)
 
   unwritten_after : ((i : ℕ) → Sole p (joined Γ π) v i → ⊥) → MemoryAfter p Γ π v (var_after p (joined Γ π) v)
-  unfolding if◌then◌else◌
+  unfolding when◌then◌else◌
   unwritten_after none =
       ⊎_elim (λ e. returns none e (unwritten-is none true e)) (λ e. MemoryAfter.stays none e (unwritten-is none false e))
       (tested (enters_waiting (move_of p (joined Γ π) (owner p v))))

@@ -9,7 +9,7 @@ use lib.Seq.{get_or-set_same, get_or-set_other}
 use Rattle.plexil.specs.declared.Cell.{Cell}
 use Rattle.plexil.specs.declared.State.{State}
 use Rattle.plexil.specs.declared.Place.{Place}
-use Rattle.plexil.specs.Lists.{if◌then◌else◌}
+use Rattle.plexil.specs.Lists.{when◌then◌else◌}
 use Rattle.plexil.specs.Values.{cell}
 use Rattle.plexil.specs.Image.{Image, priority}
 use Rattle.plexil.specs.Records.{target}
@@ -144,8 +144,8 @@ module _ (p : Image) (s : State) (c : Carry) (i : ℕ) where
   wrote-there j apart = ap (λ (l : List Bool). get_or l j false) visit-wrote ∙ get_or-set_other c.wrote i j (writes p s i) false apart
 
 -- ---- what is carried of a variable
-if-map : {A B : Type 0} (f : A → B) (b : Bool) {x y : A} {u w : B} → f x ≡ u → f y ≡ w → f (if b then x else y) ≡ (if b then u else w)
-unfolding if◌then◌else◌
+if-map : {A B : Type 0} (f : A → B) (b : Bool) {x y : A} {u w : B} → f x ≡ u → f y ≡ w → f (when b then x else y) ≡ (when b then u else w)
+unfolding when◌then◌else◌
 if-map f true q r = q
 if-map f false q r = r
 

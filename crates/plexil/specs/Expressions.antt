@@ -2,7 +2,7 @@
 use Rattle.std.specs.Prelude.{ℕ, zero, suc, [], ◌∷◌, get_or, eqb}
 use Rattle.plexil.specs.declared.Worked.{Worked}
 use Rattle.plexil.specs.declared.Worked.TheVariants.{Clash, Unknown, Bool as Flag}
-use Rattle.plexil.specs.Lists.{if◌then◌else◌}
+use Rattle.plexil.specs.Lists.{when◌then◌else◌}
 use Rattle.plexil.specs.Values.{known, cell, not_of, and_of, or_of, pair_of, eq_of, lt_of, le_of, add_of, sub_of, mul_of}
 use Rattle.plexil.specs.Image.{Image, operator, result_kind, operand_a, operand_b, constant}
 use Rattle.plexil.specs.Places.{Seen, value_in}
@@ -36,7 +36,7 @@ operator_at p e = operator_of (operator p e)
 
 -- "b = 1 known, b = 0 Unknown with constant 0"; "In 3 to 5, b is a code listed below; they are never Unknown"
 unfoldable pub leaf_of : Leaf → Image → Seen → ℕ → Worked
-leaf_of constant_op p r e = if eqb (operand_b p e) 1 then known (result_kind p e) (constant p e) else Unknown
+leaf_of constant_op p r e = when eqb (operand_b p e) 1 then known (result_kind p e) (constant p e) else Unknown
 leaf_of variable_op p r e = value_in (cell (get_or r.vartags (operand_a p e) 0) (get_or r.varbits (operand_a p e) 0))
 leaf_of lookup_op p r e = value_in (cell (get_or r.looktags (operand_a p e) 0) (get_or r.lookbits (operand_a p e) 0))
 leaf_of status_op p r e = Flag (eqb (get_or r.status (operand_a p e) 0) (operand_b p e))

@@ -5,7 +5,7 @@ use Rattle.plexil.specs.declared.State.{State}
 use Rattle.plexil.specs.declared.Card.{Card}
 use Rattle.plexil.specs.declared.Status.{Status}
 use Rattle.plexil.specs.declared.Status.TheVariants.{Inactive, Waiting, Executing, Finishing, Failing, Finished}
-use Rattle.plexil.specs.Lists.{if◌then◌else◌, every, some, all_below, all_in}
+use Rattle.plexil.specs.Lists.{when◌then◌else◌, every, some, all_below, all_in}
 use Rattle.plexil.specs.Values.{good_bits}
 use Rattle.plexil.specs.Image.{Image, node_count, var_count, look_count, var_kind, look_kind}
 use Rattle.plexil.specs.Places.{same, status_at, outcome_at, failure_at, mark_at, var_cell, look_cell, Running, Quiet}
@@ -20,7 +20,7 @@ is_idle c = some (same c Inactive ∷ same c Waiting ∷ same c Finished ∷ [])
 -- "Under Inactive, Waiting, IterationEnded or Finished a child is Inactive, Waiting or Finished. Under Finishing or Failing it is anything but Inactive.
 -- Under Executing, anything."; u is the parent's status, c the child's
 unfoldable pub allowed : Status → Status → Bool
-allowed u c = if same u Executing then true else if is_closing u then not (same c Inactive) else is_idle c
+allowed u c = when same u Executing then true else when is_closing u then not (same c Inactive) else is_idle c
 
 -- "Finishing occurs in lists only, Failing never in assignments, node 0 is never Inactive"
 unfoldable pub of_type : Image → ℕ → Status → Bool

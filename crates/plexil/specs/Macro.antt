@@ -8,7 +8,7 @@ use Rattle.plexil.specs.declared.RunAnswer.{RunAnswer}
 use Rattle.plexil.specs.declared.RunAnswer.TheVariants.{Busy, Shape, Turn, Entry, Twice, NotAwaited}
 use Rattle.plexil.specs.declared.Tested.{Tested}
 use Rattle.plexil.specs.declared.Tested.TheVariants.{Accepted, Refused}
-use Rattle.plexil.specs.Lists.{if◌then◌else◌, every, any_below, Found, at, nowhere, first}
+use Rattle.plexil.specs.Lists.{when◌then◌else◌, every, any_below, Found, at, nowhere, first}
 use Rattle.plexil.specs.Bytes.{byte_at, le16, le32, le64}
 use Rattle.plexil.specs.Values.{cell, good_bits}
 use Rattle.plexil.specs.Image.{Image, node_count, look_count, look_kind}
@@ -91,9 +91,9 @@ or_else refusal nowhere other = other
 -- "20 to 25 in order"; "20 Busy: event while Running", "22 Turn: serial not the next"
 unfoldable pub event_answer : Image → State → Card → List ℕ → Tested
 event_answer p s c b =
-    if not (eqb c.phase Quiet) then Refused Busy
-    else if not (good_shape b) then Refused Shape
-    else if not (eqb (event_serial b) c.serial) then Refused Turn
+    when not (eqb c.phase Quiet) then Refused Busy
+    else when not (good_shape b) then Refused Shape
+    else when not (eqb (event_serial b) c.serial) then Refused Turn
     else or_else Entry (first (entry_count b) (λ k. not (good_entry p b k)))
     (or_else Twice (first (entry_count b) (named_before b))
     (or_else NotAwaited (first (entry_count b) (not_awaited s b)) Accepted))

@@ -10,7 +10,7 @@ use Rattle.plexil.specs.declared.Move.{Move}
 use Rattle.plexil.specs.declared.Move.TheVariants.{Stay, Go}
 use Rattle.plexil.specs.declared.Effect.{Effect}
 use Rattle.plexil.specs.declared.Effect.TheVariants.{Kept, Cleared, Skipped as Skips, Failed, Judged}
-use Rattle.plexil.specs.Lists.{if◌then◌else◌, every, some, all_below, any_below, renew}
+use Rattle.plexil.specs.Lists.{when◌then◌else◌, every, some, all_below, any_below, renew}
 use Rattle.plexil.specs.Values.{encode}
 use Rattle.plexil.specs.Image.{Image, node_count, var_count, priority, value_field, owner}
 use Rattle.plexil.specs.Places.{status_code, same, Seen, seen, outcome_at, failure_at, mark_at, var_cell, initial, None, Success, Failure, Skipped, none, ByPost, WriteLost}
@@ -65,11 +65,11 @@ ending_by p s i Kept = (outcome_at s i, failure_at s i)
 ending_by p s i Cleared = (None, none)
 ending_by p s i Skips = (Skipped, failure_at s i)
 ending_by p s i (Failed o f) = (o, f)
-ending_by p s i Judged = if post_holds p s i then (Success, none) else (Failure, ByPost)
+ending_by p s i Judged = when post_holds p s i then (Success, none) else (Failure, ByPost)
 
 -- "The mark clears on leaving for IterationEnded"; "Executing (a command issues its word, mark clear)"
 unfoldable pub mark_by : State → ℕ → Status → ℕ
-mark_by s i a = if some (same a IterationEnded ∷ same a Executing ∷ []) then 0 else mark_at s i
+mark_by s i a = when some (same a IterationEnded ∷ same a Executing ∷ []) then 0 else mark_at s i
 
 -- what a move makes of node i's place, before the losers are settled; "What a rule does not name stays"
 unfoldable pub place_by : Image → State → ℕ → Move → Place
@@ -82,11 +82,11 @@ place p s i = place_by p s i (move_of p s i)
 
 -- "Every loser gets Failure, WriteLost, whatever Post says"
 unfoldable pub outcome_after : Image → State → ℕ → ℕ
-outcome_after p s i = if loses p s i then Failure else (place p s i).outcome
+outcome_after p s i = when loses p s i then Failure else (place p s i).outcome
 
 -- the failure of node i after the step
 unfoldable pub failure_after : Image → State → ℕ → ℕ
-failure_after p s i = if loses p s i then WriteLost else (place p s i).failure
+failure_after p s i = when loses p s i then WriteLost else (place p s i).failure
 
 -- "when it enters Waiting"
 unfoldable pub enters_waiting : Move → Bool
@@ -95,7 +95,7 @@ enters_waiting (Go a e) = same a Waiting
 
 -- variable v where no value enters it: "A node's variables return to their initial values when it enters Waiting"
 unfoldable pub unwritten : Image → State → ℕ → Cell
-unwritten p s v = if enters_waiting (move_of p s (owner p v)) then initial p v else var_cell s v
+unwritten p s v = when enters_waiting (move_of p s (owner p v)) then initial p v else var_cell s v
 
 -- the value of v's winner among the nodes below n, if there is one
 unfoldable pub written_below : Image → State → ℕ → ℕ → Cell
@@ -123,7 +123,7 @@ step p s = record {
 unfoldable pub sent_by : Image → State → ℕ → Move → ℕ
 sent_by p s i Stay = 0
 sent_by p s i (Go a e) =
-    if every (is_command p i ∷ same a Executing ∷ []) then 1 else if every (is_command p i ∷ same a Failing ∷ eqb (mark_at s i) 0 ∷ []) then 2 else 0
+    when every (is_command p i ∷ same a Executing ∷ []) then 1 else when every (is_command p i ∷ same a Failing ∷ eqb (mark_at s i) 0 ∷ []) then 2 else 0
 
 -- what node i sends
 unfoldable pub sent : Image → State → ℕ → ℕ

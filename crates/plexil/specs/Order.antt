@@ -5,7 +5,7 @@ use Rattle.plexil.specs.declared.Cell.{Cell}
 use Rattle.plexil.specs.declared.State.{State}
 use Rattle.plexil.specs.declared.Place.{Place}
 use Rattle.plexil.specs.declared.Status.TheVariants.{Waiting}
-use Rattle.plexil.specs.Lists.{if◌then◌else◌, every, renew}
+use Rattle.plexil.specs.Lists.{when◌then◌else◌, every, renew}
 use Rattle.plexil.specs.Values.{cell}
 use Rattle.plexil.specs.Image.{Image, node_count, var_count, priority, owner}
 use Rattle.plexil.specs.Places.{status_of, same, status_at, var_cell, initial, Failure, WriteLost}
@@ -46,9 +46,9 @@ put_place c i r w =
 -- a writer i of variable v with top t and value x: it leads, or is tied with the leader, or is beaten
 unfoldable pub meet : Carry → ℕ → ℕ → ℕ → Cell → Carry
 meet c v t i x =
-    if ltb (get_or c.top v 0) t then carry_of c.status c.outcome c.failure c.mark c.wrote
+    when ltb (get_or c.top v 0) t then carry_of c.status c.outcome c.failure c.mark c.wrote
     (set c.top v t) (set c.node v i) (set c.tags v x.tag) (set c.bits v x.bits) (set c.tied v 0)
-    else if eqb (get_or c.top v 0) t then carry_of c.status c.outcome c.failure c.mark c.wrote
+    else when eqb (get_or c.top v 0) t then carry_of c.status c.outcome c.failure c.mark c.wrote
     c.top c.node c.tags c.bits (set c.tied v 1)
     else c
 
@@ -56,7 +56,7 @@ meet c v t i x =
 unfoldable pub visit : Image → State → Carry → ℕ → Carry
 visit p s c i =
     let d : Carry = put_place c i (place p s i) (writes p s i) in
-    if writes p s i then meet d (target p i) (priority p i + 1) i (written p s i) else d
+    when writes p s i then meet d (target p i) (priority p i + 1) i (written p s i) else d
 
 -- the visits of a list, one after the other
 unfoldable pub walk : Image → State → List ℕ → Carry → Carry
@@ -83,15 +83,15 @@ entered_waiting s c i = every (not (same (status_at s i) Waiting) ∷ same (stat
 -- a sole leader's value enters; else the variable is reset, or stays
 unfoldable pub settled_var : Image → State → Carry → ℕ → Cell
 settled_var p s c v =
-    if every (ltb 0 (get_or c.top v 0) ∷ eqb (get_or c.tied v 0) 0 ∷ []) then cell (get_or c.tags v 0) (get_or c.bits v 0)
-    else if entered_waiting s c (owner p v) then initial p v else var_cell s v
+    when every (ltb 0 (get_or c.top v 0) ∷ eqb (get_or c.tied v 0) 0 ∷ []) then cell (get_or c.tags v 0) (get_or c.bits v 0)
+    else when entered_waiting s c (owner p v) then initial p v else var_cell s v
 
 -- the state after the settling
 unfoldable pub settle : Image → State → Carry → State
 settle p s c = record {
   status = c.status;
-  outcome = renew (node_count p) (λ i. if lost p c i then Failure else get_or c.outcome i 0) c.outcome;
-  failure = renew (node_count p) (λ i. if lost p c i then WriteLost else get_or c.failure i 0) c.failure;
+  outcome = renew (node_count p) (λ i. when lost p c i then Failure else get_or c.outcome i 0) c.outcome;
+  failure = renew (node_count p) (λ i. when lost p c i then WriteLost else get_or c.failure i 0) c.failure;
   mark = c.mark;
   vartags = renew (var_count p) (λ v. (settled_var p s c v).tag) s.vartags;
   varbits = renew (var_count p) (λ v. (settled_var p s c v).bits) s.varbits;
@@ -102,11 +102,11 @@ settle p s c = record {
 -- how often j stands in the list
 unfoldable pub count : ℕ → List ℕ → ℕ
 count j [] = 0
-count j (i ∷ is) = if eqb j i then suc (count j is) else count j is
+count j (i ∷ is) = when eqb j i then suc (count j is) else count j is
 
 -- "any list that names each node once"
 unfoldable pub NamesOnce : Image → List ℕ → Type 0
-NamesOnce p is = (j : ℕ) → count j is ≡ (if ltb j (node_count p) then 1 else 0)
+NamesOnce p is = (j : ℕ) → count j is ≡ (when ltb j (node_count p) then 1 else 0)
 
 -- opens every definition of this file
 unfoldable pub opened : Unit {0}

@@ -6,7 +6,7 @@ use Rattle.plexil.specs.declared.State.{State}
 use Rattle.plexil.specs.declared.Card.{Card}
 use Rattle.plexil.specs.declared.Status.{Status}
 use Rattle.plexil.specs.declared.Status.TheVariants.{Inactive, Waiting, Executing, Finishing, Failing, IterationEnded, Finished}
-use Rattle.plexil.specs.Lists.{if◌then◌else◌, renew}
+use Rattle.plexil.specs.Lists.{when◌then◌else◌, renew}
 use Rattle.plexil.specs.Values.{cell, decode}
 use Rattle.plexil.specs.Image.{Image, var_count, var_kind, var_known, initial_bits}
 
@@ -129,11 +129,11 @@ value_in c = decode c.tag c.bits
 
 -- a known value of kind k; a kind past 2 never passes the check
 unfoldable pub known_cell : ℕ → ℕ → Cell
-known_cell k w = if ltb k 3 then cell (k + 1) w else cell 0 0
+known_cell k w = when ltb k 3 then cell (k + 1) w else cell 0 0
 
 -- "initial value 64 (as a constant; 0 if not known)"
 unfoldable pub initial : Image → ℕ → Cell
-initial p v = if eqb (var_known p v) 1 then known_cell (var_kind p v) (initial_bits p v) else cell 0 0
+initial p v = when eqb (var_known p v) 1 then known_cell (var_kind p v) (initial_bits p v) else cell 0 0
 
 -- "Fresh: node 0 Waiting, others Inactive, outcomes None, variables initial, lookups Unknown, marks clear, serial 0, Running"
 unfoldable pub fresh_state : Image → State

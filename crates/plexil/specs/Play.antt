@@ -4,7 +4,7 @@ use Rattle.plexil.specs.declared.State.{State}
 use Rattle.plexil.specs.declared.Card.{Card}
 use Rattle.plexil.specs.declared.RunAnswer.{RunAnswer}
 use Rattle.plexil.specs.declared.RunAnswer.TheVariants as ran
-use Rattle.plexil.specs.Lists.{if◌then◌else◌, every}
+use Rattle.plexil.specs.Lists.{when◌then◌else◌, every}
 use Rattle.plexil.specs.Places.{var_cell, look_cell, fresh_state, fresh_card}
 use Rattle.plexil.specs.Check.{rule_number}
 use Rattle.plexil.specs.Replies.{RunReply, verdict_number, run_number, check_reply, fresh_reply, run_reply, turn_reply}
@@ -92,7 +92,7 @@ room = replicate 16 0
 
 -- array k of a state, place i of it now x, where k is the array that is meant
 unfoldable pub changed : ℕ → ℕ → ℕ → ℕ → List ℕ → List ℕ
-changed k meant i x l = if eqb k meant then set l i x else l
+changed k meant i x l = when eqb k meant then set l i x else l
 
 unfoldable pub state_kept : ℕ → ℕ → ℕ → State → State
 state_kept k i x s = record {
@@ -107,7 +107,7 @@ state_kept k i x s = record {
 }
 
 unfoldable pub card_kept : ℕ → ℕ → Card → Card
-card_kept k x c = record { serial = if eqb k serials then x else c.serial; phase = if eqb k phases then x else c.phase }
+card_kept k x c = record { serial = when eqb k serials then x else c.serial; phase = when eqb k phases then x else c.phase }
 
 -- whether a turn passes, with the state and the card after it
 pub record Seen : Type 0 where

@@ -13,7 +13,7 @@ use Rattle.plexil.specs.declared.RunAnswer.TheVariants as ran
 use Rattle.plexil.specs.declared.Ran.{Ran}
 use Rattle.plexil.specs.declared.Tested.{Tested}
 use Rattle.plexil.specs.declared.Tested.TheVariants as test
-use Rattle.plexil.specs.Lists.{if◌then◌else◌}
+use Rattle.plexil.specs.Lists.{when◌then◌else◌}
 use Rattle.plexil.specs.Image.{Image, node_count, expr_count, var_count, look_count}
 use Rattle.plexil.specs.Places.{fresh_state, fresh_card, Running, Quiet}
 use Rattle.plexil.specs.Check.{rule_number, verdict}
@@ -99,7 +99,7 @@ fresh_reply p s c = started_by (verdict p) p s c
 -- "Every call checks its image first, then 30 .., then 31"; "31 Place: list start beyond its end"
 unfoldable pub run_test : Verdict → Image → State → Card → ℕ → ℕ → Tested
 run_test (Refused r i) p s c end start = test.Refused (ran.Refused r i)
-run_test Admitted p s c end start = if good_kept p s c then (if ltb end start then test.Refused ran.Place else test.Accepted) else test.Refused ran.State
+run_test Admitted p s c end start = when good_kept p s c then (when ltb end start then test.Refused ran.Place else test.Accepted) else test.Refused ran.State
 
 -- a further test, made where the first accepts
 unfoldable pub and_then : Tested → Tested → Tested

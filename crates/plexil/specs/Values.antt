@@ -12,7 +12,7 @@ use Rattle.plexil.specs.declared.Worked.TheVariants.{Clash, Unknown, Bool as Fla
 use Rattle.plexil.specs.declared.Pair.{Pair}
 use Rattle.plexil.specs.declared.Pair.TheVariants as two
 use Rattle.plexil.specs.declared.Cell.{Cell}
-use Rattle.plexil.specs.Lists.{if◌then◌else◌}
+use Rattle.plexil.specs.Lists.{when◌then◌else◌}
 
 -- "1 Int (64-bit signed)"
 unfoldable pub in_range : ℤ → Bool
@@ -20,7 +20,7 @@ in_range z = le_z (negsuc (2 ^ 63 - 1)) z && le_z z (pos (2 ^ 63 - 1))
 
 -- "Int sum, difference or product outside the range is Unknown"
 unfoldable pub int_in : ℤ → Worked
-int_in z = if in_range z then Int z else Unknown
+int_in z = when in_range z then Int z else Unknown
 
 -- "2 Real (binary64, finite)"
 unfoldable pub finite : Float → Bool
@@ -30,7 +30,7 @@ finite (fin s m e) = true
 
 -- "an infinite or NaN result is Unknown"
 unfoldable pub real_in : Float → Worked
-real_in x = if finite x then Real x else Unknown
+real_in x = when finite x then Real x else Unknown
 
 -- "Kinds: 0 Bool, 1 Int (64-bit signed), 2 Real (binary64, finite)"; "Bool 0 or 1, Int two's complement, finite Real's bits"
 unfoldable pub known : ℕ → ℕ → Worked
@@ -61,7 +61,7 @@ encode Clash = cell 0 0
 encode Unknown = cell 0 0
 encode (Flag b) = cell 1 (bool_byte b)
 encode (Int z) = cell 2 (of_z w64 z)
-encode (Real x) = if finite x then cell 3 (Ieee.to_bits binary64 x) else cell 0 0
+encode (Real x) = when finite x then cell 3 (Ieee.to_bits binary64 x) else cell 0 0
 
 -- "NOT Unknown is Unknown"
 unfoldable pub not_of : Worked → Worked
@@ -73,7 +73,7 @@ not_of (Real x) = Clash
 
 -- a side that decides, and else the other
 unfoldable pub decides : Bool → Bool → Worked → Worked
-decides d b other = if beq b d then Flag d else other
+decides d b other = when beq b d then Flag d else other
 
 -- "AND is False if either side is False, True if both are True, else Unknown. OR is the same with True and False exchanged."
 unfoldable pub junction : Bool → Worked → Worked → Worked

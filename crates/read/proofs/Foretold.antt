@@ -7,7 +7,7 @@ use native.Mathlib.Omega.{arith}
 use lib.ListN.{length}
 use lib.Dec.{ltb}
 use borrow.Author.Tests.{ltb-false}
-use Rattle.plexil.specs.Lists.{if◌then◌else◌, Found, at, nowhere}
+use Rattle.plexil.specs.Lists.{when◌then◌else◌, Found, at, nowhere}
 use Rattle.grammar.specs.Table.{Said}
 use Rattle.notation.specs.Sayings.{Saying}
 use Rattle.notation.specs.Hearing.{draft_of}
@@ -18,7 +18,7 @@ use Rattle.read.specs.Survey.{measured_by, named_by, levelled_by, heard_by, surv
 
 -- the stages are taken one after another, each by what it finds
 pub survey-foretells : SurveyForetells
-unfolding measured_by named_by levelled_by heard_by survey_of measured named levelled heard read_reply if◌then◌else◌
+unfolding measured_by named_by levelled_by heard_by survey_of measured named levelled heard read_reply when◌then◌else◌
 survey-foretells u old = by (plan_says u) refl
   where
     -- the whole reply from the stage on that a text which says l has come to

@@ -6,7 +6,7 @@ use mathlib.Core.List.{List}
 use mathlib.Core.Option.{Option, none, some}
 use native.Mathlib.Omega.{arith}
 use borrow.Author.Tests.{lt-ltb, le-ltb, not-true, not-false}
-use Rattle.plexil.specs.Lists.{if◌then◌else◌, Found, at, nowhere}
+use Rattle.plexil.specs.Lists.{when◌then◌else◌, Found, at, nowhere}
 use Rattle.grammar.specs.Table.{Said}
 use Rattle.notation.specs.Sayings.{Saying}
 use Rattle.notation.specs.Draft.{Draft}
@@ -59,15 +59,15 @@ module _ (d : Draft) (room : ℕ) (s : Recognised) (seen : s ≡ accepted_as d) 
   length-is = rw seen refl
 
   pub count-refused : f.found ≡ false → fits s ≡ false → r ≡ refused_reply 3 0 → r ≡ named_by (bad_name d) d room
-  unfolding named_by measured_by if◌then◌else◌
+  unfolding named_by measured_by when◌then◌else◌
   count-refused h g e = rw (no-bad-name h, sym fits-is ∙ g) e
 
   pub room-refused : f.found ≡ false → fits s ≡ true → (n : ℕ) → n ≡ length_of s → room < n → r ≡ refused_reply 43 0 → r ≡ named_by (bad_name d) d room
-  unfolding named_by measured_by if◌then◌else◌
+  unfolding named_by measured_by when◌then◌else◌
   room-refused h g n en l e = rw (no-bad-name h, sym fits-is ∙ g, lt-ltb room (image_length d) (rw (en ∙ length-is) at l)) e
 
   pub all-passed : f.found ≡ false → fits s ≡ true → (n : ℕ) → n ≡ length_of s → n ≤ room → r ≡ made_reply n → r ≡ named_by (bad_name d) d room
-  unfolding named_by measured_by if◌then◌else◌
+  unfolding named_by measured_by when◌then◌else◌
   all-passed h g n en l e = rw (no-bad-name h, sym fits-is ∙ g, le-ltb room (image_length d) (rw (en ∙ length-is) at l)) (e ∙ ap made_reply (en ∙ length-is))
 
 -- what the look over the text found, where it is accepted

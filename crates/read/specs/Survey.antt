@@ -1,7 +1,7 @@
 -- The stages of a reading before there is an image: what they answer, and what the whole reply is after them.
 use Rattle.std.specs.Prelude.{ℕ, ◌≤◌, ◌≡◌, ◌≢◌, true, List, length, ltb}
 use Rattle.std.proofs.Math.Option.{Option, none, some}
-use Rattle.plexil.specs.Lists.{if◌then◌else◌, Found, at, nowhere}
+use Rattle.plexil.specs.Lists.{when◌then◌else◌, Found, at, nowhere}
 use Rattle.plexil.specs.Check.{verdict}
 use Rattle.grammar.specs.Table.{Said}
 use Rattle.notation.specs.Sayings.{Saying}
@@ -20,7 +20,7 @@ use Rattle.read.specs.Reply.{refused_reply, made_reply}
 -- 3 Count, and 43 ImageRoom
 unfoldable pub measured_by : Draft → ℕ → ReadReply
 measured_by d room =
-    if within_counts d then (if ltb room (image_length d) then refused_reply 43 0 else made_reply (image_length d)) else refused_reply 3 0
+    when within_counts d then (when ltb room (image_length d) then refused_reply 43 0 else made_reply (image_length d)) else refused_reply 3 0
 
 -- 42 Name
 unfoldable pub named_by : Found → Draft → ℕ → ReadReply

@@ -1,9 +1,9 @@
 // "Skip, Start, Pre, Inv, End, Post, Repeat": one test for each condition.
 ghost use Rattle.std.specs.Prelude.{◌≡◌, false, [], ◌∷◌};
-ghost use Rattle.plexil.specs.Lists.{if◌then◌else◌, every};
+ghost use Rattle.plexil.specs.Lists.{when◌then◌else◌, every};
 
 fn both(a: bool, b: bool) -> bool
-    ensures { result ≡ (if a then b else false) }
+    ensures { result ≡ (when a then b else false) }
 {
     if a { b } else { false }
 }

@@ -8,7 +8,7 @@ use lib.Dec.{eqb, ltb}
 use lib.ListN.{get_or}
 use Rattle.plexil.specs.declared.State.{State}
 use Rattle.plexil.specs.declared.Status.TheVariants.{Waiting}
-use Rattle.plexil.specs.Lists.{if◌then◌else◌, every}
+use Rattle.plexil.specs.Lists.{when◌then◌else◌, every}
 use Rattle.plexil.specs.Values.{cell}
 use Rattle.plexil.specs.Image.{Image, what, owner}
 use Rattle.plexil.specs.Places.{status_of, status_code, same, status_at, var_cell, initial}
@@ -35,11 +35,11 @@ waiting-entered s c i st st2 h g = rw (h, g, is-waiting (get_or st i 0), is-wait
 pub settled-by : (p : Image) (s : State) (c : Carry) (v : ℕ) (top tags bits tied : List ℕ)
     → c.top ≡ top → c.tags ≡ tags → c.bits ≡ bits → c.tied ≡ tied
     → settled_var p s c v
-    ≡ (if every (ltb 0 (get_or top v 0) ∷ eqb (get_or tied v 0) 0 ∷ []) then cell (get_or tags v 0) (get_or bits v 0)
-    else if entered_waiting s c (owner p v) then initial p v else var_cell s v)
+    ≡ (when every (ltb 0 (get_or top v 0) ∷ eqb (get_or tied v 0) 0 ∷ []) then cell (get_or tags v 0) (get_or bits v 0)
+    else when entered_waiting s c (owner p v) then initial p v else var_cell s v)
 unfolding settled_var
 settled-by p s c v top tags bits tied h g k m = rw (h, g, k, m)
 
 -- ---- what a loser gets in a list, x, and what the others keep
 abbrev pub losers_get : Image → Carry → ℕ → List ℕ → ℕ → ℕ
-losers_get p c x l i = if lost p c i then x else get_or l i 0
+losers_get p c x l i = when lost p c i then x else get_or l i 0

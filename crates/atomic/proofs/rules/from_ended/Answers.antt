@@ -1,23 +1,23 @@
 -- By the parent, then Repeat.
 use mathlib.Core.Path.{refl, sym, ◌∙◌}
 use Rattle.plexil.specs.declared.Condition.TheVariants.{Repeat}
-use Rattle.plexil.specs.Lists.{if◌then◌else◌}
+use Rattle.plexil.specs.Lists.{when◌then◌else◌}
 use Rattle.plexil.specs.Atomic.{default_of, from_ended}
 use Rattle.atomic.proofs.RuleLaws.{holds-is}
 use Rattle.atomic.proofs.rules.from_ended.Goals as goal
 
 pub returns-then-is_closing : goal.returns-then-is_closing
-unfolding from_ended if◌then◌else◌
+unfolding from_ended when◌then◌else◌
 returns-then-is_closing c = rw (sym c.is_closing.ensures ∙ c.if-is_closing.true)
 
 pub returns-then-holds : goal.returns-then-holds
-unfolding from_ended if◌then◌else◌ default_of
+unfolding from_ended when◌then◌else◌ default_of
 returns-then-holds c = rw (sym c.is_closing.ensures ∙ c.if-is_closing.false, sym c.same.ensures ∙ c.if-same.true, holds-is _ _ _ Repeat _ refl c.holds.ensures ∙ c.if-holds.true)
 
 pub returns-then-same : goal.returns-then-same
-unfolding from_ended if◌then◌else◌ default_of
+unfolding from_ended when◌then◌else◌ default_of
 returns-then-same c = rw (sym c.is_closing.ensures ∙ c.if-is_closing.false, sym c.same.ensures ∙ c.if-same.true, holds-is _ _ _ Repeat _ refl c.holds.ensures ∙ c.if-holds.false)
 
 pub returns : goal.returns
-unfolding from_ended if◌then◌else◌
+unfolding from_ended when◌then◌else◌
 returns c = rw (sym c.is_closing.ensures ∙ c.if-is_closing.false, sym c.same.ensures ∙ c.if-same.false)

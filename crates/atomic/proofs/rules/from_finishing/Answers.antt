@@ -1,23 +1,23 @@
 -- The two failures, then the children.
 use mathlib.Core.Path.{sym, ◌∙◌}
 use Rattle.plexil.specs.declared.Condition.TheVariants.{Inv}
-use Rattle.plexil.specs.Lists.{if◌then◌else◌}
+use Rattle.plexil.specs.Lists.{when◌then◌else◌}
 use Rattle.plexil.specs.Atomic.{failure_or, by_status}
 use Rattle.atomic.proofs.RuleLaws.{fails-is, inv-default}
 use Rattle.atomic.proofs.rules.from_finishing.Goals as goal
 
 pub returns-then-same : goal.returns-then-same
-unfolding by_status failure_or if◌then◌else◌
+unfolding by_status failure_or when◌then◌else◌
 returns-then-same c = rw (sym c.same.ensures ∙ c.if-same.true) c.fails_by.ensures
 
 pub returns-then-fails : goal.returns-then-fails
-unfolding by_status failure_or if◌then◌else◌
+unfolding by_status failure_or when◌then◌else◌
 returns-then-fails c = rw (sym c.same.ensures ∙ c.if-same.false, fails-is _ _ _ Inv _ (inv-default _ _ _) c.fails.ensures ∙ c.if-fails.true) c.fails_by-then-fails.ensures
 
 pub returns-then-resting : goal.returns-then-resting
-unfolding by_status failure_or if◌then◌else◌
+unfolding by_status failure_or when◌then◌else◌
 returns-then-resting c = rw (sym c.same.ensures ∙ c.if-same.false, fails-is _ _ _ Inv _ (inv-default _ _ _) c.fails.ensures ∙ c.if-fails.false, sym c.requires ∙ c.if-resting.true)
 
 pub returns : goal.returns
-unfolding by_status failure_or if◌then◌else◌
+unfolding by_status failure_or when◌then◌else◌
 returns c = rw (sym c.same.ensures ∙ c.if-same.false, fails-is _ _ _ Inv _ (inv-default _ _ _) c.fails.ensures ∙ c.if-fails.false, sym c.requires ∙ c.if-resting.false)

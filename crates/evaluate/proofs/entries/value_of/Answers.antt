@@ -1,7 +1,7 @@
 -- The loop's invariant: what is pending makes the entry's value of what goes on (`Standing`). The measure: the turns that are left at most.
 use mathlib.Core.Path.{refl}
 use native.Mathlib.Omega.{arith}
-use Rattle.plexil.specs.Lists.{if◌then◌else◌}
+use Rattle.plexil.specs.Lists.{when◌then◌else◌}
 use Rattle.plexil.specs.Expressions.{value_of}
 use Rattle.image.proofs.Laws.{exprs_at-below}
 use Rattle.evaluate.specs.Pending.{resumed, current}
@@ -10,7 +10,7 @@ use Rattle.evaluate.proofs.Standing.{small_at, small-none, small-set, at-end, at
 use Rattle.evaluate.proofs.entries.value_of.Goals as goal
 
 pub loop-down-init : goal.loop-down-init
-unfolding resumed current if◌then◌else◌ value_of
+unfolding resumed current when◌then◌else◌ value_of
 loop-down-init c = (
   omega (arith, c.exprs_at-base.ensures, exprs_at-below c.args.image.now c.type_inv.image),
   omega arith,

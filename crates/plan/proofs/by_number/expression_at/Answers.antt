@@ -2,7 +2,7 @@
 use borrow.Author.Tests.{lt-ltb, le-ltb}
 use Rattle.plexil.proofs.ListLaws.{if-true, if-false}
 use Rattle.plan.specs.View.{expression_at_of}
-use Rattle.plan.proofs.records.expression_at.Goals as goal
+use Rattle.plan.proofs.by_number.expression_at.Goals as goal
 
 pub returns-then-e-n : goal.returns-then-e-n
 unfolding expression_at_of

@@ -2,7 +2,7 @@
 use borrow.Author.Tests.{lt-ltb, le-ltb}
 use Rattle.plexil.proofs.ListLaws.{if-true, if-false}
 use Rattle.plan.specs.View.{node_at_of}
-use Rattle.plan.proofs.records.node_at.Goals as goal
+use Rattle.plan.proofs.by_number.node_at.Goals as goal
 
 pub returns-then-i-n : goal.returns-then-i-n
 unfolding node_at_of

@@ -2,7 +2,7 @@
 use borrow.Author.Tests.{lt-ltb, le-ltb}
 use Rattle.plexil.proofs.ListLaws.{if-true, if-false}
 use Rattle.plan.specs.View.{variable_at_of}
-use Rattle.plan.proofs.records.variable_at.Goals as goal
+use Rattle.plan.proofs.by_number.variable_at.Goals as goal
 
 pub returns-then-v-n : goal.returns-then-v-n
 unfolding variable_at_of

@@ -2,7 +2,7 @@
 use borrow.Author.Tests.{lt-ltb, le-ltb}
 use Rattle.plexil.proofs.ListLaws.{if-true, if-false}
 use Rattle.plan.specs.View.{lookup_at_of}
-use Rattle.plan.proofs.records.lookup_at.Goals as goal
+use Rattle.plan.proofs.by_number.lookup_at.Goals as goal
 
 pub returns-then-l-n : goal.returns-then-l-n
 unfolding lookup_at_of
