@@ -24,6 +24,8 @@ pub struct Stepped {
     pub state: State,
 }
 
+// Not inlined: so its arrays leave the stack before a run asks whether the plan is quiet.
+#[inline(never)]
 pub fn step(image: &[u8], s: State, part: &mut [u32]) -> Stepped
     requires { IsAdmitted image.now × IsKept image.now s }
     ensures { (result ≡ stepped_of image.now s part.old) × (part.new ≡ part_after image.now s part.old) }

@@ -35,6 +35,8 @@ pub(crate) fn run_test(image: &[u8], state: State, card: Card, end: usize, start
 }
 
 // "31 is now tested after 30 and before 20"
+// Not inlined: so the states that the tests take leave the stack before the run begins.
+#[inline(never)]
 pub(crate) fn turn_test(
     image: &[u8],
     state: State,
