@@ -1,5 +1,5 @@
 -- What is told of a node, one attribute after another.
-use Prim.Native.Nat.{ℕ, suc, ◌+◌, ◌-◌, ◌≤◌, ◌<◌}
+use Prim.Native.Nat.{ℕ, ◌+◌, ◌-◌, ◌≤◌, ◌<◌}
 use mathlib.Core.Path.{◌≡◌, refl, sym, ◌∙◌, ap, ap₂, subst}
 use mathlib.Core.Bool.{true}
 use mathlib.Core.List.{List, [], ◌∷◌}
@@ -9,8 +9,8 @@ use Rattle.plexil.specs.Lists.{put}
 use Rattle.grammar.specs.Leads.{is_number, value_from}
 use Rattle.grammar.specs.Table.{Said}
 use Rattle.notation.specs.Sayings.{Kind, Saying, conditions, ranks, declares_variable, ends}
-use Rattle.notation.specs.Phrases.{Sayings, Says, Expression, Attributes}
-use Rattle.notation.specs.Draft.{Variable, Node, Entry, Mentioned, Slot, condition, Draft, with_slot, with_priority, with_given, with_initial}
+use Rattle.notation.specs.Phrases.{Sayings, Says, Attributes}
+use Rattle.notation.specs.Draft.{Variable, Node, Entry, Mentioned, condition, Draft, with_slot, with_priority, with_given, with_initial}
 use Rattle.notation.specs.Hearing as Hearing
 use Rattle.notation.specs.Hearing.{◌▸◌, at_last, last, here, on_node, on_variable, into_slot, no_conditions, hear, hear_all}
 use Rattle.notation.specs.Mapping.{kind_code}
@@ -22,15 +22,14 @@ use Rattle.recognise.specs.Hears.{piece}
 use Rattle.names.proofs.ViewLaws.{length_last, length-snoc}
 use Rattle.build.specs.declared.attributes.Described.{Described}
 use Rattle.build.specs.declared.nodes.Course.{Course}
-use Rattle.build.specs.Flow as Flow
-use Rattle.build.specs.Flow.{code_of, of_kind}
-use Rattle.build.specs.Hearsay.{Hears, Heard, Apt}
+use Rattle.build.specs.Flow.{of_kind}
+use Rattle.build.specs.Hearsay.{Hears, Apt}
 use Rattle.build.specs.Known.{Tables}
-use Rattle.build.specs.Standing.{Scene, Fair, Stands, within, entries_bytes}
-use Rattle.build.specs.Steps.{Stepped, Due, Past}
+use Rattle.build.specs.Standing.{Scene, Fair, within, entries_bytes}
+use Rattle.build.specs.Steps.{Stepped, Due}
 use Rattle.build.specs.Pendings.{ReadsBy}
 use Rattle.build.specs.Literals.{word_of, WordAt}
-use Rattle.build.specs.Laying.{Laid, entries_at, Site, Between, Current}
+use Rattle.build.specs.Laying.{entries_at, Site, Between, Current}
 use Rattle.build.specs.Telling.{LaysVariable, LaysInitial, ExpressesBy, Ranks, Begins, Telling, Opened}
 use Rattle.build.proofs.Phrased.{expression-due}
 use Rattle.build.proofs.EntryLaws.{entries-length}

@@ -2,7 +2,7 @@
 use Prim.Native.Nat.{ℕ, ◌+◌, ◌≤◌, ◌<◌}
 use mathlib.Core.Path.{◌≡◌, refl, sym, ◌∙◌, ap}
 use mathlib.Core.Bool.{Bool, true, false}
-use mathlib.Core.List.{List, [], ◌∷◌}
+use mathlib.Core.List.{List, ◌∷◌}
 use native.Mathlib.Omega.{arith}
 use lib.Dec.{ltb}
 use borrow.Author.Tests.{ltb-true}
@@ -10,7 +10,7 @@ use Rattle.plexil.specs.Lists.{all_below}
 use Rattle.plexil.proofs.ListLaws.{all_below-at}
 use Rattle.grammar.specs.Spelling.{Placed}
 use Rattle.grammar.specs.Table.{Said}
-use Rattle.notation.specs.Sayings.{Kind, boolean, integer, float, What, Operator, Saying, silence, declares_command, numbers_command, declares_lookup, names, begins, opens_list, closes_list, calls, assigns, conditions, ranks, declares_variable, initial_truth, initial_whole, initial_decimal, initial_bits, truth, whole, decimal, bits, unknown, reads, mentions, descends, asks, negates, operates, parenthesis, closes, ends}
+use Rattle.notation.specs.Sayings.{Kind, boolean, integer, float, Operator, Saying, silence, declares_command, numbers_command, declares_lookup, names, begins, opens_list, closes_list, calls, assigns, conditions, ranks, declares_variable, initial_truth, initial_whole, initial_decimal, initial_bits, truth, whole, decimal, bits, unknown, reads, mentions, descends, asks, negates, operates, parenthesis, closes, ends}
 use Rattle.notation.specs.Phrases.{Sayings, Says, Leaf, is-truth, is_whole, is-decimal, is-bits, Expression, Initial, Opening, named, unnamed, Attributes, Nodes}
 use Rattle.notation.specs.Phrases as Phrases
 use Rattle.notation.specs.Draft.{Draft, with_initial}
@@ -23,7 +23,6 @@ use Rattle.build.specs.Flow as Flow
 use Rattle.build.specs.Flow.{After, binding, code_of, of_kind}
 use Rattle.build.specs.Hearsay.{Heard, Apt}
 use Rattle.build.specs.Literals.{word_of}
-use Rattle.build.proofs.Numbers.{operator-range}
 
 -- ---- "Skip, Start, Pre, Inv, End, Post, Repeat"
 few : Saying → Bool

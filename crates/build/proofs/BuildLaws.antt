@@ -7,14 +7,13 @@ use native.Mathlib.Omega.{arith}
 use lib.ListN.{length, get_or, take, length-map}
 use lib.Dec.{leb}
 use borrow.Author.Tests.{leb-true}
-use Rattle.plexil.specs.Lists.{put, every}
+use Rattle.plexil.specs.Lists.{put}
 use Rattle.plexil.specs.Assemble as Assemble
 use Rattle.plexil.specs.Assemble.{join}
 use Rattle.plexil.proofs.ListLaws.{every-at}
 use Rattle.plexil.proofs.PutLaws.{length-put}
 use Rattle.grammar.specs.Table.{Said}
 use Rattle.notation.specs.Sayings.{Saying}
-use Rattle.notation.specs.Spoken.{spoken}
 use Rattle.notation.specs.Phrases as Phrases
 use Rattle.notation.specs.Phrases.{Sayings}
 use Rattle.notation.specs.Draft.{Draft, blank}
@@ -32,7 +31,7 @@ use Rattle.recognise.proofs.FewSaid.{few-said}
 use Rattle.names.specs.declared.table.Told.{Told}
 use Rattle.names.specs.Answers.{Accepted, tale_said}
 use Rattle.names.specs.Kinds.{Kinded}
-use Rattle.names.specs.Tables.{base_of, count_of, TabledSort, Ready, Filled}
+use Rattle.names.specs.Tables.{base_of, count_of, TabledSort, Ready}
 use Rattle.names.specs.Tale.{list_of}
 use Rattle.names.specs.View.{of_lookup, of_variable}
 use Rattle.names.proofs.ToldLaws.{told}
@@ -43,7 +42,7 @@ use Rattle.build.specs.Standing.{most_bytes, entries_bytes, header}
 use Rattle.build.specs.Known.{Known, tables}
 use Rattle.build.specs.Declarations.{declared, Planned, Recorded, Rooted, Declares}
 use Rattle.build.specs.Laying.{Holds, head_of, Limited, Laid, entries_at, variables_at, lookups_at, Site}
-use Rattle.build.specs.Telling.{ReadsNodeBy, Opened, Done}
+use Rattle.build.specs.Telling.{ReadsNodeBy, Opened}
 use Rattle.build.specs.Building.{counted_told, Makes, Builds}
 use Rattle.build.proofs.EntryLaws.{entries-length}
 use Rattle.build.proofs.HoldLaws.{stands, stays-before, holds-none, holds_more, holds-all}

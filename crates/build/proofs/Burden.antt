@@ -9,7 +9,7 @@ use lib.Dec.{leb}
 use borrow.Author.Tests.{le-leb}
 use Rattle.grammar.specs.Spelling.{Token, Placed}
 use Rattle.grammar.specs.Table.{Said}
-use Rattle.notation.specs.Sayings.{What, Operator, Saying, silence, declares_command, numbers_command, declares_lookup, names, begins, opens_list, closes_list, calls, assigns, conditions, ranks, declares_variable, initial_truth, initial_whole, initial_decimal, initial_bits, truth, whole, decimal, bits, unknown, reads, mentions, descends, asks, negates, operates, parenthesis, closes, ends}
+use Rattle.notation.specs.Sayings.{Saying, silence, declares_command, numbers_command, declares_lookup, names, begins, opens_list, closes_list, calls, assigns, conditions, ranks, declares_variable, initial_truth, initial_whole, initial_decimal, initial_bits, truth, whole, decimal, bits, unknown, reads, mentions, descends, asks, negates, operates, parenthesis, closes, ends}
 use Rattle.notation.specs.Draft.{Entry, negation, about, Pending, prefix, paren, infix', with_held, Draft}
 use Rattle.notation.specs.Hearing as Hearing
 use Rattle.notation.specs.Hearing.{◌▸◌, ending, waiting, last, made, strength, settle_name, mention_path, negated, adding, hear, hear_all}
@@ -53,7 +53,7 @@ settled-more d (t ∷ ts) = one_more d.entries (operators d.pending) _
 path-keeps : (q : List Token) (ts : List Placed) (d : Draft) → ((mention_path q ts d).entries ≡ d.entries) × ((mention_path q ts d).pending ≡ d.pending)
 unfolding mention_path Hearing.mentioning
 path-keeps q [] d = (refl, refl)
-path-keeps q (t ∷ ts) d = path-keeps _ ts _
+path-keeps q (t ∷ ts) d = path-keeps (q ▸ t.bytes) ts _
 
 negated-more : (n : Bool) (d : Draft) → length d.entries + operators d.pending ≤ length (negated n d).entries + operators (negated n d).pending
 unfolding negated adding

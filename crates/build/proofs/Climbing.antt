@@ -1,24 +1,24 @@
 -- The steps of a reader of expressions.
-use Prim.Native.Nat.{ℕ, zero, suc, ◌+◌, ◌-◌, ◌≤◌, ◌<◌}
-use mathlib.Core.Path.{◌≡◌, refl, sym, ◌∙◌, ap, subst}
-use mathlib.Core.Bool.{Bool, true, false}
+use Prim.Native.Nat.{ℕ, suc, ◌-◌, ◌≤◌, ◌<◌}
+use mathlib.Core.Path.{◌≡◌, refl, sym, ◌∙◌, ap}
+use mathlib.Core.Bool.{true, false}
 use mathlib.Core.List.{List, [], ◌∷◌, ◌++◌}
 use native.Mathlib.Omega.{arith}
 use lib.ListN.{length, length-append}
 use Rattle.grammar.specs.Table.{Said}
-use Rattle.notation.specs.Sayings.{Kind, boolean, integer, float, Operator, disjunction, conjunction, equal, unequal, less, at_most, greater, at_least, plus, minus, times, Saying, mentions, operates, negates, parenthesis, closes, ends, descends, asks}
-use Rattle.notation.specs.Phrases.{Sayings, Says, Leaf, is-truth, is_whole, is-decimal, is-bits, is-unknown, is-lookup, Path}
-use Rattle.notation.specs.Draft.{Entry, negation, Mentioned, Pending, prefix, paren, infix', Draft}
+use Rattle.notation.specs.Sayings.{boolean, integer, float, Operator, Saying, mentions, operates, negates, parenthesis, closes, ends}
+use Rattle.notation.specs.Phrases.{Sayings, Says, Leaf, is-truth, is_whole, is-decimal, is-bits, is-unknown, is-lookup}
+use Rattle.notation.specs.Draft.{Entry, negation, Pending, prefix, paren, infix'}
 use Rattle.notation.specs.Hearing as Hearing
 use Rattle.notation.specs.Hearing.{strength, made, last, ◌▸◌, hear, hear_all}
 use Rattle.recognise.specs.declared.Cursor.{Cursor}
-use Rattle.build.specs.Hearsay.{Hears, Heard}
+use Rattle.build.specs.Hearsay.{Hears}
 use Rattle.build.specs.Flow as Flow
 use Rattle.build.specs.Flow.{Before, After, binding, code_of, of_operator, of_kind, of_sign}
-use Rattle.build.specs.Standing.{Scene, Fair, Stands, within, Still, parens}
+use Rattle.build.specs.Standing.{Scene, Fair, Stands, within, Still}
 use Rattle.build.specs.Steps.{Stepped, Due, Met, Past, Emits}
 use Rattle.plexil.specs.Assemble as Assemble
-use Rattle.build.specs.Operators.{Ends, Binds}
+use Rattle.build.specs.Operators.{Binds}
 use Rattle.build.proofs.Numbers.{operator-range, made-two}
 use Rattle.build.proofs.EntryLaws.{length_more}
 use Rattle.build.proofs.Ending.{operator-ends, not-ends}

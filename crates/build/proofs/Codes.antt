@@ -1,5 +1,5 @@
 -- The number of what a cursor has heard is the number of that saying.
-use Prim.Native.Nat.{ℕ, zero, suc, ◌≤◌, ◌<◌}
+use Prim.Native.Nat.{ℕ, ◌≤◌, ◌<◌}
 use mathlib.Core.Path.{◌≡◌, refl, sym, ◌∙◌, ap}
 use mathlib.Core.Bool.{Bool, true, false}
 use mathlib.Core.List.{List}

@@ -1,5 +1,5 @@
 -- From declaration to declaration, until the plan's node begins.
-use Prim.Native.Nat.{ℕ, suc, ◌+◌, ◌-◌, ◌≤◌, ◌<◌}
+use Prim.Native.Nat.{ℕ, ◌+◌, ◌-◌, ◌≤◌, ◌<◌}
 use mathlib.Core.Path.{◌≡◌, refl, sym, ◌∙◌, ap, subst}
 use mathlib.Core.Bool.{true}
 use mathlib.Core.List.{List, [], ◌∷◌}
@@ -11,7 +11,7 @@ use Rattle.grammar.specs.Table.{Said}
 use Rattle.notation.specs.Sayings.{Kind, boolean, integer, float, Saying, declares_command, numbers_command, declares_lookup}
 use Rattle.notation.specs.Spoken.{spoken}
 use Rattle.notation.specs.Phrases.{Sayings, Says, Node, node, Plan, root, lookup, command}
-use Rattle.notation.specs.Draft.{Command, Lookup, Mention, Mentioned, Draft, with_commands, with_number}
+use Rattle.notation.specs.Draft.{Command, Lookup, Mention, Mentioned, Draft, with_number}
 use Rattle.notation.specs.Hearing as Hearing
 use Rattle.notation.specs.Hearing.{◌▸◌, at_last, hear, hear_all}
 use Rattle.notation.specs.Mapping.{kind_code}
@@ -19,7 +19,6 @@ use Rattle.notation.proofs.OwnedHeard.{at-last}
 use Rattle.recognise.specs.declared.Cursor.{Cursor}
 use Rattle.recognise.specs.Hears.{piece}
 use Rattle.recognise.specs.Tape.{Tape, Begun}
-use Rattle.build.specs.Flow as Flow
 use Rattle.build.specs.Flow.{code_of, of_kind}
 use Rattle.build.specs.Hearsay.{Apt, Hears, Heard}
 use Rattle.build.specs.Steps.{Stepped}

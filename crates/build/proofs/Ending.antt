@@ -1,22 +1,18 @@
 -- What is pending, and when it ends.
-use Prim.Native.Nat.{ℕ, zero, suc, ◌≤◌, ◌<◌}
-use mathlib.Core.Path.{◌≡◌, refl, sym, ◌∙◌, ap}
-use mathlib.Core.Bool.{Bool, true, false, cond}
+use Prim.Native.Nat.{ℕ, ◌≤◌, ◌<◌}
+use mathlib.Core.Path.{◌≡◌, refl}
 use mathlib.Core.List.{List, [], ◌∷◌, ◌++◌}
 use native.Mathlib.Omega.{arith}
 use lib.ListN.{length}
-use lib.Dec.{leb}
-use borrow.Author.Tests.{leb-true, leb-false, le-leb, lt-leb}
-use Rattle.grammar.specs.Spelling.{Placed}
+use borrow.Author.Tests.{le-leb, lt-leb}
 use Rattle.grammar.specs.Table.{Said}
-use Rattle.notation.specs.Sayings.{Operator, Saying, operates, closes, ends}
-use Rattle.notation.specs.Phrases.{Sayings, Says}
+use Rattle.notation.specs.Sayings.{Operator, Saying}
+use Rattle.notation.specs.Phrases.{Sayings}
 use Rattle.notation.specs.Draft.{Entry, negation, Mentioned, Pending, prefix, paren, infix', Draft}
-use Rattle.notation.specs.Hearing as Hearing
 use Rattle.notation.specs.Hearing.{strength, made, ending, waiting, end_operators, settle_name, settled, hear, hear_all, last, ◌▸◌}
 use Rattle.build.specs.Flow.{Before, After, closing, operator, binding}
 use Rattle.build.specs.Flow as Flow
-use Rattle.build.specs.Standing.{within, Still, parens}
+use Rattle.build.specs.Standing.{within, Still}
 
 pub still-nothing : (k : ℕ) → Still k []
 still-nothing k s h = unfold ending waiting in (λ es. refl, refl)

@@ -1,6 +1,6 @@
 -- The bytes of entries, one more at a time.
 use Prim.Native.Nat.{ℕ, zero, suc, ◌+◌, ◌*◌, ◌≤◌, ◌<◌}
-use mathlib.Core.Path.{◌≡◌, refl, sym, ◌∙◌, ap, ap₂}
+use mathlib.Core.Path.{◌≡◌, refl, sym, ◌∙◌, ap}
 use mathlib.Core.List.{List, [], ◌∷◌, ◌++◌, append_assoc, append-nil}
 use native.Mathlib.Omega.{arith}
 use native.Mathlib.Nat.{zero-add}
@@ -12,7 +12,6 @@ use Rattle.plexil.specs.Assemble.{join}
 use Rattle.plexil.proofs.PutLaws.{length-put}
 use Rattle.notation.specs.Draft.{Entry, constant, unknown_of, variable, lookup, about, negation, two, Draft}
 use Rattle.notation.specs.Hearing.{◌▸◌}
-use Rattle.notation.specs.Mapping as Mapping
 use Rattle.notation.specs.Mapping.{kind_of_entry, entry_bytes, all_entries}
 use Rattle.build.specs.Standing.{Scene, Stands, entries_bytes, kinds_after}
 use Rattle.build.proofs.Puts.{put_then}

@@ -1,5 +1,5 @@
 -- A draft's nodes and variables only grow.
-use Prim.Native.Nat.{ℕ, suc, ◌≤◌}
+use Prim.Native.Nat.{◌≤◌}
 use mathlib.Core.Path.{◌≡◌, refl, ap, ◌∙◌}
 use mathlib.Core.Bool.{Bool, true, false}
 use mathlib.Core.List.{List, [], ◌∷◌}
@@ -7,7 +7,7 @@ use native.Mathlib.Omega.{arith}
 use lib.ListN.{length}
 use Rattle.grammar.specs.Spelling.{Token, Placed}
 use Rattle.grammar.specs.Table.{Said}
-use Rattle.notation.specs.Sayings.{What, Saying, silence, declares_command, numbers_command, declares_lookup, names, begins, opens_list, closes_list, calls, assigns, conditions, ranks, declares_variable, initial_truth, initial_whole, initial_decimal, initial_bits, truth, whole, decimal, bits, unknown, reads, mentions, descends, asks, negates, operates, parenthesis, closes, ends}
+use Rattle.notation.specs.Sayings.{Saying, silence, declares_command, numbers_command, declares_lookup, names, begins, opens_list, closes_list, calls, assigns, conditions, ranks, declares_variable, initial_truth, initial_whole, initial_decimal, initial_bits, truth, whole, decimal, bits, unknown, reads, mentions, descends, asks, negates, operates, parenthesis, closes, ends}
 use Rattle.notation.specs.Draft.{Entry, about, with_held, Draft}
 use Rattle.notation.specs.Hearing as Hearing
 use Rattle.notation.specs.Hearing.{◌▸◌, at_last, settle_name, mention_path, negated, adding, hear, hear_all}
@@ -31,7 +31,7 @@ settled-more d (t ∷ ts) = (refl, refl)
 path-keeps : (q : List Token) (ts : List Placed) (d : Draft) → ((mention_path q ts d).nodes ≡ d.nodes) × ((mention_path q ts d).variables ≡ d.variables)
 unfolding mention_path Hearing.mentioning
 path-keeps q [] d = (refl, refl)
-path-keeps q (t ∷ ts) d = path-keeps _ ts _
+path-keeps q (t ∷ ts) d = path-keeps (q ▸ t.bytes) ts _
 
 negated-keeps : (n : Bool) (d : Draft) → ((negated n d).nodes ≡ d.nodes) × ((negated n d).variables ≡ d.variables)
 unfolding negated adding

@@ -1,14 +1,14 @@
 -- Leaves: what they add, and what is heard after them.
-use Prim.Native.Nat.{ℕ, zero, suc, ◌+◌, ◌-◌, ◌≤◌, ◌<◌, ◌%◌}
+use Prim.Native.Nat.{ℕ, zero, suc, ◌+◌, ◌≤◌, ◌<◌, ◌%◌}
 use mathlib.Core.Path.{◌≡◌, refl, sym, ◌∙◌, ap, subst}
 use mathlib.Core.Bool.{Bool, true, false, ◌&&◌, cond, false≢true}
 use borrow.Author.Tests.{leb-true}
 use Rattle.recognise.specs.Codes as Codes
 use Rattle.recognise.specs.Codes.{say_of}
-use mathlib.Core.List.{List, [], ◌∷◌, ◌++◌}
+use mathlib.Core.List.{List, [], ◌∷◌}
 use native.Mathlib.Omega.{arith}
 use lib.ListN.{length}
-use lib.Dec.{eqb, leb}
+use lib.Dec.{leb}
 use Rattle.plexil.specs.Lists.{all_below}
 use Rattle.plexil.proofs.ListLaws.{all_below-at}
 use Rattle.plexil.specs.Assemble as Assemble

@@ -1,21 +1,20 @@
 -- Constants by the numbers of what is said.
 use Prim.Native.Nat.{ℕ, ◌-◌, ◌≤◌, ◌<◌}
-use mathlib.Core.Path.{◌≡◌, refl, sym, ◌∙◌, ap}
-use mathlib.Core.Bool.{Bool, true, false}
+use mathlib.Core.Path.{◌≡◌, refl, ◌∙◌, ap}
+use mathlib.Core.Bool.{true, false}
 use mathlib.Core.List.{List, [], ◌∷◌}
 use native.Mathlib.Omega.{arith}
-use lib.ListN.{length, get_or}
+use lib.ListN.{get_or}
 use lib.Dec.{eqb}
 use Rattle.grammar.specs.Spelling.{Token, Placed}
 use Rattle.grammar.specs.Leads.{is_number, value_from}
 use Rattle.plexil.specs.Assemble as Assemble
-use Rattle.notation.specs.Sayings.{Kind, boolean, integer, float, Saying, silence, declares_command, numbers_command, declares_lookup, names, begins, opens_list, closes_list, calls, assigns, conditions, ranks, declares_variable, initial_truth, initial_whole, initial_decimal, initial_bits, truth, whole, decimal, bits, unknown, reads, mentions, descends, asks, negates, operates, parenthesis, closes, ends}
+use Rattle.notation.specs.Sayings.{boolean, integer, float, Saying}
 use Rattle.notation.specs.Phrases.{Leaf, is-truth, is_whole, is-decimal, is-bits, is-unknown, is-lookup}
 use Rattle.notation.specs.Numbers.{flag, signed, real_bits, signed_bits}
 use Rattle.notation.specs.Draft.{Entry, Mentioned, Pending, Draft}
 use Rattle.notation.specs.Hearing as Hearing
 use Rattle.notation.specs.Hearing.{hear, ◌▸◌}
-use Rattle.notation.specs.Mapping as Mapping
 use Rattle.notation.specs.Mapping.{entry_bytes, kind_code}
 use Rattle.words.specs.Exact.{exact}
 use Rattle.build.specs.Flow as Flow

@@ -1,21 +1,20 @@
 -- Nodes and lists, from what is told of them.
-use Prim.Native.Nat.{ℕ, zero, suc, ◌+◌, ◌-◌, ◌≤◌, ◌<◌}
+use Prim.Native.Nat.{ℕ, zero, suc, ◌-◌, ◌≤◌, ◌<◌}
 use mathlib.Core.Path.{◌≡◌, refl, sym, ◌∙◌, ap, ap₂, subst}
-use mathlib.Core.List.{List, [], ◌∷◌, ◌++◌}
+use mathlib.Core.List.{List, [], ◌∷◌}
 use native.Mathlib.Omega.{arith}
 use lib.ListN.{length}
 use Rattle.plexil.specs.Assemble as Assemble
 use Rattle.grammar.specs.Table.{Said}
 use Rattle.notation.specs.Sayings.{Saying, names, begins, opens_list, closes_list, calls, assigns}
-use Rattle.notation.specs.Phrases.{Sayings, Says, Expression, Opening, named, unnamed, Attributes, Nodes}
-use Rattle.notation.specs.Draft.{Variable, Node, Body, list, assignment, Entry, Mentioned, Slot, value, Draft, with_slot, with_body}
+use Rattle.notation.specs.Phrases.{Sayings, Opening, named, unnamed, Attributes, Nodes}
+use Rattle.notation.specs.Draft.{Node, Body, list, assignment, value, Draft, with_body}
 use Rattle.notation.specs.Hearing as Hearing
 use Rattle.notation.specs.Hearing.{◌▸◌, at_last, last, here, on_node, into_slot, parent_in, no_conditions, hear, hear_all}
 use Rattle.notation.specs.Names.{command_of, variable_of}
 use Rattle.notation.specs.Mapping.{number_of, number_of_command, node_bytes}
 use Rattle.notation.proofs.OwnedHeard.{at-last}
 use Rattle.recognise.specs.declared.Cursor.{Cursor}
-use Rattle.recognise.specs.Hears.{piece}
 use Rattle.names.proofs.ViewLaws.{length_last, length-snoc}
 use Rattle.build.specs.declared.attributes.Described.{Described}
 use Rattle.build.specs.declared.nodes.Course.{Course}
@@ -24,7 +23,7 @@ use Rattle.build.specs.Hearsay.{Hears, Heard}
 use Rattle.build.specs.Known.{Tables, MeansVariable, MeansCommand}
 use Rattle.build.specs.Standing.{within}
 use Rattle.build.specs.Steps.{Stepped}
-use Rattle.build.specs.Laying.{Laid, Site, Between, Current, Keeps}
+use Rattle.build.specs.Laying.{Laid, Site, Between, Keeps}
 use Rattle.build.specs.Telling.{LaysNode, ExpressesBy, Telling, Opened, Done, Listing}
 use Rattle.build.proofs.Growing.{more-all}
 use Rattle.build.proofs.AttributeViews.{is-list, is-command, is-assignment, first-node, is-closed, is-node}

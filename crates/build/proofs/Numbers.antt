@@ -1,15 +1,15 @@
 -- Operators by their numbers.
-use Prim.Native.Nat.{ℕ, zero, suc, ◌+◌, ◌-◌, ◌≤◌, ◌<◌}
+use Prim.Native.Nat.{ℕ, zero, suc, ◌-◌, ◌≤◌, ◌<◌}
 use mathlib.Core.Bool.{Bool, true, false, false≢true}
 use lib.Dec.{leb}
 use borrow.Author.Tests.{leb-true}
 use Rattle.plexil.specs.Lists.{all_in}
-use mathlib.Core.Path.{◌≡◌, refl, sym, ◌∙◌, ap}
-use mathlib.Core.List.{List, [], ◌∷◌, ◌++◌}
+use mathlib.Core.Path.{◌≡◌, refl, ◌∙◌, ap}
+use mathlib.Core.List.{List, [], ◌∷◌}
 use native.Mathlib.Omega.{arith}
-use lib.ListN.{length, get_or}
+use lib.ListN.{get_or}
 use Rattle.notation.specs.Sayings.{Operator, disjunction, conjunction, equal, unequal, less, at_most, greater, at_least, plus, minus, times}
-use Rattle.notation.specs.Draft.{Entry, negation, two}
+use Rattle.notation.specs.Draft.{negation, two}
 use Rattle.notation.specs.Hearing.{strength, made}
 use Rattle.notation.specs.Mapping.{binary_code, kind_of_binary}
 use Rattle.build.specs.Flow.{of_operator}

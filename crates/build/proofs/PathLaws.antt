@@ -1,7 +1,7 @@
 -- Paths: a part at a time, and the question at their end.
-use Prim.Native.Nat.{ℕ, zero, suc, ◌+◌, ◌-◌, ◌≤◌, ◌<◌}
-use mathlib.Core.Path.{◌≡◌, refl, sym, ◌∙◌, ap, subst}
-use mathlib.Core.Bool.{Bool, true, false, not, ◌&&◌, cond, false≢true}
+use Prim.Native.Nat.{ℕ, suc, ◌-◌, ◌≤◌, ◌<◌}
+use mathlib.Core.Path.{◌≡◌, refl, sym, ◌∙◌, ap}
+use mathlib.Core.Bool.{Bool, true, false, not, cond, false≢true}
 use mathlib.Core.List.{List, [], ◌∷◌, ◌++◌}
 use native.Mathlib.Omega.{arith}
 use lib.ListN.{length, get_or}
@@ -12,7 +12,7 @@ use Rattle.plexil.specs.Assemble as Assemble
 use Rattle.plexil.proofs.ListLaws.{all_below-at}
 use Rattle.grammar.specs.Spelling.{Token, Placed}
 use Rattle.grammar.specs.Table.{Said}
-use Rattle.notation.specs.Sayings.{What, Saying, asks, descends}
+use Rattle.notation.specs.Sayings.{What, Saying, asks}
 use Rattle.notation.specs.Phrases.{Sayings, Says, Path, asked, part}
 use Rattle.notation.specs.Numbers.{flag}
 use Rattle.notation.specs.Draft.{Entry, about, negation, Mentioned, Pending, Draft, with_mentions}
@@ -23,7 +23,6 @@ use Rattle.notation.specs.Mapping.{entry_bytes, number_of, what_code}
 use Rattle.recognise.specs.declared.Cursor.{Cursor}
 use Rattle.recognise.specs.Codes as Codes
 use Rattle.recognise.specs.Codes.{say_of}
-use Rattle.recognise.specs.Hears.{piece}
 use Rattle.names.specs.declared.answers.NameFound.{NameFound}
 use Rattle.names.specs.Answers.{found_of}
 use Rattle.build.specs.Flow.{After, code_of}

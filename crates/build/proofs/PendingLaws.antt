@@ -1,28 +1,18 @@
 -- Operators kept in an array: one more, one less, and how many there can be.
-use Prim.Native.Nat.{ℕ, zero, suc, ◌+◌, ◌-◌, ◌*◌, ◌≤◌, ◌<◌, ◌%◌}
-use mathlib.Core.Path.{◌≡◌, refl, sym, ◌∙◌, ap, ap₂, subst}
-use mathlib.Core.Bool.{Bool, true, false, cond}
-use mathlib.Core.List.{List, [], ◌∷◌, ◌++◌}
-use mathlib.Core.Logic.{◌⊎◌, inl, inr}
+use Prim.Native.Nat.{ℕ, zero, suc, ◌+◌, ◌-◌, ◌*◌, ◌≤◌, ◌<◌}
+use mathlib.Core.Path.{◌≡◌, refl, sym, ◌∙◌, ap, subst}
+use mathlib.Core.List.{List, [], ◌∷◌}
 use native.Mathlib.Omega.{arith}
-use lib.ListN.{length, get_or, set, length-append, length-set}
-use lib.Dec.{leb}
+use lib.ListN.{length, get_or, set, length-set}
 use lib.Seq.{get_or-set_same, get_or-set_other}
-use Rattle.grammar.specs.Spelling.{Placed}
-use Rattle.grammar.specs.Table.{Said}
-use Rattle.notation.specs.Sayings.{Operator, Saying}
+use Rattle.notation.specs.Sayings.{Operator}
 use Rattle.notation.specs.Phrases as Phrases
 use Rattle.notation.specs.Phrases.{Sayings, Path}
-use Rattle.notation.specs.Draft.{Entry, negation, Pending, prefix, paren, infix', Draft}
-use Rattle.notation.specs.Hearing as Hearing
-use Rattle.notation.specs.Hearing.{◌▸◌, ending, waiting, last, made, strength, hear_all}
+use Rattle.notation.specs.Draft.{Pending, prefix, paren, infix'}
 use Rattle.build.specs.Flow as Flow
 use Rattle.build.specs.Flow.{Before, After, of_operator}
-use Rattle.build.specs.Standing.{parens, Still}
-use Rattle.build.specs.Pendings as Pendings
-use Rattle.build.specs.Pendings.{opens, operators, Lefts, Kept, none, not, operator, Held, empty, group, weaker, Weighs}
-use Rattle.build.proofs.Ending.{still-nothing, still-group, still-operator, still-not}
-use Rattle.build.proofs.Numbers.{operator-range}
+use Rattle.build.specs.Standing.{parens}
+use Rattle.build.specs.Pendings.{opens, operators, Kept, none, not, operator}
 
 -- ---- the array below a place
 kept-so : (a b : List ℕ) (t : ℕ) (ps : List Pending) → ((i : ℕ) → i < 3 * suc t → get_or b i 0 ≡ get_or a i 0) → Kept a t ps → Kept b t ps

@@ -1,9 +1,6 @@
 -- An expression's phrases, told as a reader meets their sayings.
-use Prim.Native.Nat.{ℕ, zero, suc}
-use mathlib.Core.List.{List, [], ◌∷◌}
-use Rattle.grammar.specs.Table.{Said}
-use Rattle.notation.specs.Sayings.{Saying, ends}
-use Rattle.notation.specs.Phrases.{Sayings, Says, Operand, leaf, variable, path, not, group, Chain, one, more, Expression, ended}
+use Prim.Native.Nat.{ℕ, suc}
+use Rattle.notation.specs.Phrases.{Sayings, Operand, leaf, variable, path, not, group, Chain, one, more, Expression, ended}
 use Rattle.build.specs.Flow as Flow
 use Rattle.build.specs.Flow.{Before, After}
 

@@ -3,8 +3,7 @@ use Prim.Native.Nat.{ℕ, zero, suc, ◌+◌, ◌-◌, ◌*◌, ◌≤◌, ◌<�
 use mathlib.Core.Path.{◌≡◌, refl, sym, ◌∙◌, ap, ap₂}
 use mathlib.Core.List.{List, [], ◌∷◌, ◌++◌, append_assoc}
 use native.Mathlib.Omega.{arith}
-use native.Mathlib.Nat.{add-zero}
-use lib.ListN.{length, get_or, set, take, drop, length-append}
+use lib.ListN.{length, get_or, set, take, drop}
 use lib.Seq.{set_split, drop-cons, drop-nil}
 use native.Mathlib.Numerals.{add-one}
 use Rattle.plexil.specs.Lists.{put}

@@ -2,7 +2,7 @@
 use Prim.Native.Nat.{ℕ, zero, suc, ◌+◌, ◌-◌, ◌*◌, ◌≤◌, ◌<◌, ◌%◌}
 use mathlib.Core.Path.{◌≡◌, refl, sym, ◌∙◌, ap, subst}
 use mathlib.Core.Bool.{Bool, true, false}
-use mathlib.Core.List.{List, [], ◌∷◌, ◌++◌}
+use mathlib.Core.List.{List, [], ◌∷◌}
 use native.Mathlib.Omega.{arith}
 use lib.Dec.{eqb}
 use borrow.Author.Tests.{eqb-true, eqb-false}
@@ -11,15 +11,15 @@ use lib.Seq.{get_or-set_same}
 use Rattle.grammar.specs.Table.{Said}
 use Rattle.notation.specs.Sayings.{Operator, Saying, closes, ends}
 use Rattle.notation.specs.Phrases.{Sayings}
-use Rattle.notation.specs.Draft.{Entry, Mentioned, Pending, prefix, paren, infix', Draft}
-use Rattle.notation.specs.Hearing.{strength, made, last, hear_all}
+use Rattle.notation.specs.Draft.{Entry, Mentioned, Pending, prefix, paren, infix'}
+use Rattle.notation.specs.Hearing.{hear_all}
 use Rattle.recognise.specs.declared.Cursor.{Cursor}
 use Rattle.build.specs.Flow as Flow
 use Rattle.build.specs.Flow.{After, binding, code_of, of_operator}
-use Rattle.build.specs.Standing.{Scene, Fair, Stands, within, parens, Still}
+use Rattle.build.specs.Standing.{Scene, Fair, within, parens, Still}
 use Rattle.build.specs.Known.{Tables, Known}
-use Rattle.build.specs.Operators.{Binds, Ends}
-use Rattle.build.specs.Steps.{Stepped, Due, Met, Past, Emits, Leaves}
+use Rattle.build.specs.Operators.{Binds}
+use Rattle.build.specs.Steps.{Stepped, Due, Past, Emits, Leaves}
 use Rattle.build.specs.Pendings.{opens, operators, Lefts, Kept, none, not, operator, places, DueBy, MetBy, PastBy, Held, empty, group, weaker, Weighs, EndsOne, Pushed, Lowered, Keeps}
 use Rattle.build.proofs.Climbing.{met, group-due, not-due, closes-past, past-binds, operator-due, operator-past, not-past, at_code, code-closes, code-ends, operates-code}
 use Rattle.build.proofs.Ending.{still-nothing, still-group, still-operator, still-not}

@@ -2,7 +2,6 @@
 use Rattle.std.specs.Prelude.{ℕ, ◌≡◌, true, List, length, take}
 use Rattle.grammar.specs.Table.{Said}
 use Rattle.notation.specs.Sayings.{Saying}
-use Rattle.notation.specs.Draft.{Draft}
 use Rattle.notation.specs.Hearing.{draft_of}
 use Rattle.notation.specs.Mapping.{image_of, within_counts, image_length}
 use Rattle.recognise.specs.declared.Recognised.{Recognised}

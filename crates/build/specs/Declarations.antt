@@ -5,7 +5,7 @@ use Rattle.plexil.specs.Lists.{put}
 use Rattle.plexil.specs.Assemble.{join}
 use Rattle.grammar.specs.Leads.{value_from}
 use Rattle.grammar.specs.Table.{Said}
-use Rattle.notation.specs.Sayings.{Kind, Saying, numbers_command}
+use Rattle.notation.specs.Sayings.{Saying, numbers_command}
 use Rattle.notation.specs.Spoken.{spoken}
 use Rattle.notation.specs.Phrases.{Sayings, Says, Node, Plan}
 use Rattle.notation.specs.Draft.{Command, Lookup, Mentioned, value, Draft, blank}

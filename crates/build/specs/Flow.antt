@@ -1,5 +1,5 @@
 -- The order of sayings within an expression as a reader meets it: an operand is due, or one has been read, with n parentheses open.
-use Rattle.std.specs.Prelude.{ℕ, zero, suc, ◌+◌, Bool, true, false, List, [], ◌∷◌}
+use Rattle.std.specs.Prelude.{ℕ, suc, ◌+◌, Bool, true, false, ◌∷◌}
 use Rattle.grammar.specs.Table.{Said}
 use Rattle.notation.specs.Sayings.{Kind, boolean, integer, float, What, status, outcome, failure, Operator, disjunction, conjunction, equal, unequal, less, at_most, greater, at_least, plus, minus, times, Saying, silence, declares_command, numbers_command, declares_lookup, names, begins, opens_list, closes_list, calls, assigns, conditions, ranks, declares_variable, initial_truth, initial_whole, initial_decimal, initial_bits, truth, whole, decimal, bits, unknown, reads, mentions, descends, asks, negates, operates, parenthesis, closes, ends}
 use Rattle.notation.specs.Phrases.{Sayings, Says, Leaf, Path}

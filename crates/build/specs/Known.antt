@@ -1,12 +1,11 @@
 -- What is known of the text's names: the tables of its declarations, and the draft that they are of.
 use Rattle.std.specs.Prelude.{ℕ, suc, ◌+◌, ◌≤◌, ◌<◌, ◌≡◌, List, [], ◌∷◌, length, get_or}
-use Rattle.plexil.specs.Lists.{Found, at, nowhere}
-use Rattle.grammar.specs.Spelling.{Token}
+use Rattle.plexil.specs.Lists.{Found}
 use Rattle.grammar.specs.Table.{Said}
 use Rattle.notation.specs.Sayings.{Saying}
 use Rattle.notation.specs.Draft.{Draft}
 use Rattle.notation.specs.Hearing.{draft_of}
-use Rattle.notation.specs.Names.{variable_of, lookup_of, command_of, node_up, node_down, child_of}
+use Rattle.notation.specs.Names.{variable_of, lookup_of, command_of, node_up, node_down}
 use Rattle.notation.specs.Mapping.{number_of, kind_of_variable, kind_of_lookup, number_of_command}
 use Rattle.recognise.specs.declared.Cursor.{Cursor}
 use Rattle.recognise.specs.Hears.{piece}

@@ -1,20 +1,12 @@
 -- What the bytes of an image stand for while the records of a text are laid into it, and where a reader of nodes stands.
-use Rattle.std.specs.Prelude.{ℕ, suc, ◌+◌, ◌*◌, ◌≤◌, ◌<◌, ◌≡◌, List, [], ◌∷◌, length, get_or}
+use Rattle.std.specs.Prelude.{ℕ, ◌+◌, ◌*◌, ◌≤◌, ◌<◌, ◌≡◌, List, [], length, get_or}
 use Rattle.plexil.specs.Assemble.{join}
-use Rattle.plexil.specs.Assemble as Assemble
-use Rattle.plexil.specs.Lists.{put}
-use Rattle.grammar.specs.Leads.{value_from}
-use Rattle.grammar.specs.Table.{Said}
-use Rattle.notation.specs.Sayings.{Saying}
-use Rattle.notation.specs.Phrases.{Sayings, Expression, Attributes, Nodes}
+use Rattle.notation.specs.Phrases.{Sayings}
 use Rattle.notation.specs.Draft.{Variable, list, Node, Entry, Draft}
-use Rattle.notation.specs.Hearing.{◌▸◌, last, here, on_node, into_slot, parent_in, no_conditions, hear_all}
+use Rattle.notation.specs.Hearing.{◌▸◌, parent_in, hear_all}
 use Rattle.notation.specs.Mapping.{all_nodes, all_variables, all_lookups}
-use Rattle.recognise.specs.declared.Cursor.{Cursor}
-use Rattle.build.specs.Flow.{code_of}
-use Rattle.build.specs.Hearsay.{Hears, Heard}
 use Rattle.build.specs.Known.{Tables, Known}
-use Rattle.build.specs.Standing.{entries_bytes, header, most_bytes, within}
+use Rattle.build.specs.Standing.{entries_bytes, header, most_bytes}
 
 -- the bytes x stand in the image from place n on
 abbrev pub Holds : List ℕ → ℕ → List ℕ → Type 0

@@ -1,8 +1,8 @@
 -- The entries of leaves, and the numbers of those that are constants.
-use Rattle.std.specs.Prelude.{ℕ, ◌≤◌, ◌<◌, ◌≡◌, List, [], ◌∷◌, length}
+use Rattle.std.specs.Prelude.{ℕ, ◌≤◌, ◌<◌, ◌≡◌, List, length}
 use Rattle.grammar.specs.Spelling.{Token}
 use Rattle.grammar.specs.Leads.{value_from}
-use Rattle.notation.specs.Sayings.{Kind, boolean, integer, float, Saying, silence, declares_command, numbers_command, declares_lookup, names, begins, opens_list, closes_list, calls, assigns, conditions, ranks, declares_variable, initial_truth, initial_whole, initial_decimal, initial_bits, truth, whole, decimal, bits, unknown, reads, mentions, descends, asks, negates, operates, parenthesis, closes, ends}
+use Rattle.notation.specs.Sayings.{boolean, integer, float, Saying, silence, declares_command, numbers_command, declares_lookup, names, begins, opens_list, closes_list, calls, assigns, conditions, ranks, declares_variable, initial_truth, initial_whole, initial_decimal, initial_bits, truth, whole, decimal, bits, unknown, reads, mentions, descends, asks, negates, operates, parenthesis, closes, ends}
 use Rattle.notation.specs.Phrases.{Leaf}
 use Rattle.notation.specs.Numbers.{flag, signed, real_bits, signed_bits}
 use Rattle.notation.specs.Draft.{Entry, constant, unknown_of}

@@ -1,6 +1,6 @@
 -- Operands that are names.
 use Rattle.std.specs.Prelude.{ℕ, ◌≤◌, ◌<◌, ◌≡◌, List, [], ◌∷◌, length}
-use Rattle.grammar.specs.Spelling.{Token, Placed}
+use Rattle.grammar.specs.Spelling.{Placed}
 use Rattle.grammar.specs.Table.{Said}
 use Rattle.notation.specs.Sayings.{Saying}
 use Rattle.notation.specs.Phrases.{Sayings, Path}

@@ -1,7 +1,7 @@
 -- What the operators between two operands are in the image: "`a > b` is `b < a`, `a != b` is NOT of EQ".
 use Rattle.std.specs.Prelude.{ℕ, ◌≡◌, List, [], ◌∷◌, ◌++◌, ◌≤◌, ◌<◌, length, get_or}
 use Rattle.notation.specs.Sayings.{Operator, disjunction, conjunction, equal, unequal, less, at_most, greater, at_least, plus, minus, times}
-use Rattle.notation.specs.Draft.{Entry, negation, two, Binary, or, and, eq, lt, le, add, sub, mul}
+use Rattle.notation.specs.Draft.{Entry, negation, Binary, or, and, eq, lt, le, add, sub, mul}
 use Rattle.notation.specs.Hearing.{made, last, strength}
 use Rattle.notation.specs.Mapping.{binary_code, kind_of_binary}
 use Rattle.build.specs.Flow.{of_operator}

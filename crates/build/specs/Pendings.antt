@@ -1,5 +1,5 @@
 -- Operators whose right operand has not ended, as they are kept in an array: at each place three numbers.
-use Rattle.std.specs.Prelude.{ℕ, zero, suc, ◌+◌, ◌-◌, ◌*◌, ◌≤◌, ◌<◌, ◌%◌, ◌≡◌, Bool, true, false, List, [], ◌∷◌, ◌⊎◌, length, get_or, set}
+use Rattle.std.specs.Prelude.{ℕ, suc, ◌+◌, ◌-◌, ◌*◌, ◌≤◌, ◌<◌, ◌%◌, ◌≡◌, Bool, true, false, List, [], ◌∷◌, length, get_or, set}
 use Rattle.notation.specs.Sayings.{Operator}
 use Rattle.notation.specs.Draft.{Pending, prefix, paren, infix'}
 use Rattle.notation.specs.Hearing.{strength}

@@ -1,7 +1,7 @@
 -- Questions about nodes by their numbers, and the paths to the nodes.
 use Rattle.std.specs.Prelude.{ℕ, ◌≤◌, ◌<◌, ◌≡◌, List, [], ◌∷◌}
 use Rattle.grammar.specs.Spelling.{Placed}
-use Rattle.notation.specs.Sayings.{What, Saying, silence, declares_command, numbers_command, declares_lookup, names, begins, opens_list, closes_list, calls, assigns, conditions, ranks, declares_variable, initial_truth, initial_whole, initial_decimal, initial_bits, truth, whole, decimal, bits, unknown, reads, mentions, descends, asks, negates, operates, parenthesis, closes, ends}
+use Rattle.notation.specs.Sayings.{Saying, silence, declares_command, numbers_command, declares_lookup, names, begins, opens_list, closes_list, calls, assigns, conditions, ranks, declares_variable, initial_truth, initial_whole, initial_decimal, initial_bits, truth, whole, decimal, bits, unknown, reads, mentions, descends, asks, negates, operates, parenthesis, closes, ends}
 use Rattle.notation.specs.Numbers.{flag}
 use Rattle.notation.specs.Draft.{Entry, Mentioned, Pending}
 use Rattle.notation.specs.Hearing.{all_bytes}

@@ -1,5 +1,5 @@
 -- Where a reader of expressions stands: before an operand, at its first saying, and at the first saying after it.
-use Rattle.std.specs.Prelude.{ℕ, ◌+◌, ◌≤◌, ◌<◌, ◌≡◌, List, [], ◌∷◌, length}
+use Rattle.std.specs.Prelude.{ℕ, ◌≤◌, ◌<◌, ◌≡◌, List, [], ◌∷◌, length}
 use Rattle.grammar.specs.Table.{Said}
 use Rattle.notation.specs.Sayings.{Saying}
 use Rattle.notation.specs.Phrases.{Sayings}
@@ -9,9 +9,9 @@ use Rattle.notation.specs.Mapping.{entry_bytes}
 use Rattle.plexil.specs.Assemble as Assemble
 use Rattle.recognise.specs.declared.Cursor.{Cursor}
 use Rattle.build.specs.Hearsay.{Hears, Heard}
-use Rattle.build.specs.Flow.{Before, After, binding, code_of}
+use Rattle.build.specs.Flow.{Before, After, code_of}
 use Rattle.build.specs.Known.{Tables, Known}
-use Rattle.build.specs.Standing.{Scene, Fair, Stands, within, kinds_after, parens, Still, most_bytes}
+use Rattle.build.specs.Standing.{Scene, Fair, Stands, within, kinds_after, most_bytes}
 
 -- the cursor c has gone on to r, to a saying that is not silence
 pub record Stepped (u : List ℕ) (c r : Cursor) : Type 0 where

@@ -1,5 +1,5 @@
 -- What the functions that read nodes answer: each leaves the image with the records of what it has heard.
-use Rattle.std.specs.Prelude.{ℕ, suc, ◌+◌, ◌-◌, ◌≤◌, ◌<◌, ◌≡◌, List, [], ◌∷◌, length}
+use Rattle.std.specs.Prelude.{ℕ, ◌-◌, ◌≤◌, ◌<◌, ◌≡◌, List, [], ◌∷◌, length}
 use Rattle.plexil.specs.Assemble as Assemble
 use Rattle.grammar.specs.Leads.{value_from}
 use Rattle.grammar.specs.Table.{Said}
@@ -9,11 +9,10 @@ use Rattle.notation.specs.Draft.{Variable, Node, Entry, Mentioned, Draft, with_i
 use Rattle.notation.specs.Hearing.{◌▸◌, at_last, last, here, on_node, on_variable, into_slot, parent_in, no_conditions, hear}
 use Rattle.notation.specs.Mapping.{kind_code, node_bytes}
 use Rattle.recognise.specs.declared.Cursor.{Cursor}
-use Rattle.recognise.specs.Hears.{piece}
 use Rattle.build.specs.declared.attributes.Described.{Described}
 use Rattle.build.specs.declared.nodes.Course.{Course}
 use Rattle.build.specs.Flow.{code_of}
-use Rattle.build.specs.Hearsay.{Hears, Heard, Apt}
+use Rattle.build.specs.Hearsay.{Hears, Heard}
 use Rattle.build.specs.Known.{Tables}
 use Rattle.build.specs.Standing.{within}
 use Rattle.build.specs.Pendings.{places}

@@ -1,6 +1,5 @@
 -- What a survey answers is what the whole reply begins with.
-use Prim.Native.Nat.{ℕ}
-use mathlib.Core.Path.{◌≡◌, refl, sym, ap, ◌∙◌}
+use mathlib.Core.Path.{◌≡◌, refl, ap, ◌∙◌}
 use mathlib.Core.Bool.{Bool, true, false}
 use mathlib.Core.List.{List}
 use mathlib.Core.Option.{Option, none, some}
@@ -15,7 +14,6 @@ use Rattle.notation.specs.Hearing.{draft_of}
 use Rattle.notation.specs.Names.{too_deep, bad_name}
 use Rattle.notation.specs.Mapping.{within_counts, image_length}
 use Rattle.notation.specs.Reading.{plan_says, measured, named, levelled, heard, read_reply}
-use Rattle.read.specs.Reply.{refused_reply, made_reply}
 use Rattle.read.specs.Survey.{measured_by, named_by, levelled_by, heard_by, survey_of, Foretells, SurveyForetells}
 
 -- the stages are taken one after another, each by what it finds

@@ -1,6 +1,6 @@
 -- What a call leaves: a refusal of the survey, or what is delivered of the image that was made.
-use Prim.Native.Nat.{ℕ, ◌+◌, ◌*◌, ◌≤◌}
-use mathlib.Core.Path.{◌≡◌, refl, sym, ap, ◌∙◌, subst}
+use Prim.Native.Nat.{ℕ, ◌≤◌}
+use mathlib.Core.Path.{◌≡◌, sym, ap, ◌∙◌, subst}
 use mathlib.Core.Logic.{◌≢◌}
 use mathlib.Core.Bool.{true}
 use mathlib.Core.List.{List}
@@ -14,7 +14,7 @@ use Rattle.notation.specs.Sayings.{Saying}
 use Rattle.notation.specs.Draft.{Draft}
 use Rattle.notation.specs.Hearing.{draft_of}
 use Rattle.notation.specs.Mapping.{within_counts, image_length, image_of}
-use Rattle.notation.specs.Reading.{Reading, refused, judged, read_reply}
+use Rattle.notation.specs.Reading.{judged, read_reply}
 use Rattle.recognise.specs.declared.Recognised.{Recognised}
 use Rattle.recognise.specs.Recognised.{accepted_as}
 use Rattle.names.specs.declared.table.Told.{Told}
@@ -22,8 +22,7 @@ use Rattle.names.specs.Answers.{Accepted, tale_said}
 use Rattle.names.specs.Tables.{Filled}
 use Rattle.read.specs.declared.reply.ReadReply.{ReadReply}
 use Rattle.read.specs.declared.surveying.Overview.{Overview}
-use Rattle.read.specs.Reply.{reply_of, refused_reply}
-use Rattle.read.specs.Survey.{Foretells, Passes, Surveyed}
+use Rattle.read.specs.Survey.{Foretells, Surveyed}
 use Rattle.read.proofs.Foretold.{survey-foretells}
 use Rattle.read.proofs.Handed.{Leaves, refuses}
 

@@ -13,7 +13,7 @@ use Rattle.notation.specs.Draft.{Draft}
 use Rattle.notation.specs.Hearing.{draft_of}
 use Rattle.notation.specs.Names.{is_found, too_deep, bad_name}
 use Rattle.notation.specs.Mapping.{within_counts, image_length}
-use Rattle.notation.specs.Reading.{plan_says, text_reach}
+use Rattle.notation.specs.Reading.{plan_says}
 use Rattle.recognise.specs.declared.Recognised.{Recognised}
 use Rattle.recognise.specs.Recognised.{place_of, accepted_as, recognised_by, recognised_of}
 use Rattle.names.specs.declared.answers.NameFound.{NameFound}

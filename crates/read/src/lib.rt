@@ -1,7 +1,7 @@
 // Reading a text into a plan image: the refusals before there is an image, in their order, the image built apart, and handed on where the check admits it.
 #![tactic(auto)]
 
-mod image;
+mod delivery;
 mod limits;
 mod reading;
 mod reply;

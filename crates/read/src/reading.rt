@@ -3,7 +3,7 @@ ghost use Rattle.std.specs.Prelude.{◌≡◌};
 ghost use Rattle.notation.specs.Reading.{read_reply};
 ghost use Rattle.read.specs.Reply.{reply_of};
 
-use super::image::delivered;
+use super::delivery::delivered;
 use super::reply::ReadReply;
 use super::surveying::survey;
 

@@ -1,9 +1,9 @@
 -- The report says all that it can say, and a call permits one reply.
-use Prim.Native.Nat.{ℕ, zero, suc}
+use Prim.Native.Nat.{ℕ}
 use mathlib.Core.Path.{◌≡◌, refl, sym, ap, ◌∙◌}
 use mathlib.Core.List.{List, [], ◌∷◌}
 use native.Mathlib.Omega.{arith}
-use lib.ListN.{length, set}
+use lib.ListN.{set}
 use Rattle.notation.specs.Reading.{Reading}
 use Rattle.read.specs.declared.reply.ReadReply.{ReadReply}
 use Rattle.read.specs.Reply.{reply_of}

@@ -1,0 +1,16 @@
+-- `build::pending::prefixes` meets its contract. The invariant: the parentheses and NOTs that have been heard are kept.
+use Prim.Native.Nat.{ℕ, ◌-◌, ◌≤◌}
+use mathlib.Core.Path.{◌≡◌}
+use mathlib.Core.List.{List, []}
+use lib.ListN.{length}
+use Rattle.recognise.specs.Tape.{Tape}
+use Rattle.build.specs.Standing.{Scene, Fair}
+use Rattle.build.specs.Pendings.{places, MetBy}
+use Rattle.build.proofs.pending.prefixes.Given as goal
+
+abbrev pub invariant-loop-turns : goal.invariant-loop-turns
+invariant-loop-turns l = Tape l.text l.owner → (s : Scene) (node base size count : ℕ) (image : List ℕ) → length l.initial.pending ≡ places → Fair s node base → s.whole.pending ≡ [] → size ≤ l.left → MetBy l.text s base l.initial.pending l.initial.up size l.initial.at count image
+    → MetBy l.text s base l.pending l.up (size - l.turns) l.at count image × (length l.pending ≡ places)
+
+abbrev pub decreases-loop-turns : goal.decreases-loop-turns
+decreases-loop-turns l = l.left - l.turns
