@@ -12,7 +12,7 @@ use Rattle.plexil.specs.Image.{Image, operator, operand_a, operand_b}
 use Rattle.plexil.specs.Expressions.{operator_of, operator_at}
 use Rattle.plexil.specs.Scope.{operands_pass, depth_within}
 use Rattle.admit.specs.Depth.{Depth}
-use Rattle.plexil.proofs.TestLaws.{one-fails, and_then, and_last, decides}
+use Rattle.plexil.proofs.TestLaws.{one-fails, and-then, and_last, decides}
 use Rattle.plexil.proofs.OperatorNumbers.{a-leaf, a-binary}
 
 -- ---- one level more
@@ -23,7 +23,7 @@ second-deeper : (a b d : ℕ) → a ≤ b → leb b d ≡ every (leb a d ∷ leb
 second-deeper a b d h = go (leb b d) refl
   where
     go : (t : Bool) → leb b d ≡ t → leb b d ≡ every (leb a d ∷ leb b d ∷ [])
-    go true t = and_then _ (le-leb a d (omega (arith, leb-true b d t))) (and_last refl)
+    go true t = and-then _ (le-leb a d (omega (arith, leb-true b d t))) (and_last refl)
     go false t = t ∙ one-fails _ 1 t
 
 first-deeper : (a b d : ℕ) → b ≤ a → leb a d ≡ every (leb a d ∷ leb b d ∷ [])

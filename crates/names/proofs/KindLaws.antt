@@ -27,7 +27,7 @@ use Rattle.names.specs.Answers.{Accepted, tale_said}
 use Rattle.names.specs.Kinds.{Kinded}
 use Rattle.names.proofs.Halfway.{Newly}
 use Rattle.names.proofs.ToldLaws.{told}
-use Rattle.names.proofs.ViewLaws.{length-snoc, get_d-snoc-other, get_d-snoc-last}
+use Rattle.names.proofs.ViewLaws.{length-snoc, get_or-snoc-other, get_or-snoc-last}
 
 -- ---- a variable's kind is the number of its saying less 20
 by_number : Token → ℕ → Bool
@@ -117,12 +117,12 @@ module _ (old ks : List ℕ) (n : ℕ) (l : List ℕ) (v : ℕ) (t : Tabled old 
       at_place k i j true e =
           let m = ltb-true i n e in
           get_or-set_other ks (320 + n) (320 + i) v 0 (λ z. omega arith)
-          ∙ t.kinds k i m ∙ sym (get_d-snoc-other l v 0 i (omega (arith, t.many k)))
+          ∙ t.kinds k i m ∙ sym (get_or-snoc-other l v 0 i (omega (arith, t.many k)))
       at_place k i j false e =
           let m : i ≡ n = omega (arith, ltb-false i n e) in
           let q : i ≡ length l = m ∙ t.many k in
           ap (λ x. get_or (set ks (320 + n) v) (320 + x) 0) m
-          ∙ get_or-set_same ks (320 + n) v 0 (omega (arith, t.size)) ∙ sym (ap (λ x. get_or (l ▸ v) x 0) q ∙ get_d-snoc-last l v 0)
+          ∙ get_or-set_same ks (320 + n) v 0 (omega (arith, t.size)) ∙ sym (ap (λ x. get_or (l ▸ v) x 0) q ∙ get_or-snoc-last l v 0)
 
 -- told so far are n kinds, and the table has them
 abbrev pub Kinding : List ℕ → List ℕ → ℕ → Tale → Standing → Type 0

@@ -91,29 +91,29 @@ number-said Sayings.closes t e a = absurd (omega arith)
 number-said Sayings.ends t e a = absurd (omega arith)
 
 -- ---- the number at a place
-get_d-snoc-zero : (l : List ℕ) (i : ℕ) → get_or (l ▸ 0) i 0 ≡ get_or l i 0
+get_or-snoc-zero : (l : List ℕ) (i : ℕ) → get_or (l ▸ 0) i 0 ≡ get_or l i 0
 unfolding ◌▸◌
-get_d-snoc-zero [] zero = refl
-get_d-snoc-zero [] (suc i) = refl
-get_d-snoc-zero (x ∷ l) zero = refl
-get_d-snoc-zero (x ∷ l) (suc i) = get_d-snoc-zero l i
+get_or-snoc-zero [] zero = refl
+get_or-snoc-zero [] (suc i) = refl
+get_or-snoc-zero (x ∷ l) zero = refl
+get_or-snoc-zero (x ∷ l) (suc i) = get_or-snoc-zero l i
 
 module _ (k : ℕ) where
-  get_d-last : (l : List ℕ) (i : ℕ) → length l ≡ suc i → get_or (at_last (λ n. k) l) i 0 ≡ k
+  get_or-last : (l : List ℕ) (i : ℕ) → length l ≡ suc i → get_or (at_last (λ n. k) l) i 0 ≡ k
   unfolding at_last
-  get_d-last [] i e = absurd (omega arith)
-  get_d-last (x ∷ []) zero e = refl
-  get_d-last (x ∷ []) (suc i) e = absurd (omega arith)
-  get_d-last (x ∷ (y ∷ l)) zero e = absurd (omega arith)
-  get_d-last (x ∷ (y ∷ l)) (suc i) e = get_d-last (y ∷ l) i (omega arith)
+  get_or-last [] i e = absurd (omega arith)
+  get_or-last (x ∷ []) zero e = refl
+  get_or-last (x ∷ []) (suc i) e = absurd (omega arith)
+  get_or-last (x ∷ (y ∷ l)) zero e = absurd (omega arith)
+  get_or-last (x ∷ (y ∷ l)) (suc i) e = get_or-last (y ∷ l) i (omega arith)
 
-  get_d-before-last : (l : List ℕ) (i : ℕ) → (length l ≡ suc i → ⊥) → get_or (at_last (λ n. k) l) i 0 ≡ get_or l i 0
+  get_or-before-last : (l : List ℕ) (i : ℕ) → (length l ≡ suc i → ⊥) → get_or (at_last (λ n. k) l) i 0 ≡ get_or l i 0
   unfolding at_last
-  get_d-before-last [] i e = refl
-  get_d-before-last (x ∷ []) zero e = absurd (e refl)
-  get_d-before-last (x ∷ []) (suc i) e = refl
-  get_d-before-last (x ∷ (y ∷ l)) zero e = refl
-  get_d-before-last (x ∷ (y ∷ l)) (suc i) e = get_d-before-last (y ∷ l) i (λ h. e (ap suc h))
+  get_or-before-last [] i e = refl
+  get_or-before-last (x ∷ []) zero e = absurd (e refl)
+  get_or-before-last (x ∷ []) (suc i) e = refl
+  get_or-before-last (x ∷ (y ∷ l)) zero e = refl
+  get_or-before-last (x ∷ (y ∷ l)) (suc i) e = get_or-before-last (y ∷ l) i (λ h. e (ap suc h))
 
 -- of the numbers l there are n, and the number of the command i is v, 0 if it is not among them
 pub record Numbered (i n v : ℕ) (l : List ℕ) : Type 0 where
@@ -125,12 +125,12 @@ Numbering i n v b q = Numbered i n v b.numbers
 
 module _ (i n v k : ℕ) (l : List ℕ) (h : Numbered i n v l) where
   numbered-same : (s t : Bool) → (s ≡ false → t ≡ true → n ≡ i + 1 → ⊥) → Numbered i (cond s (n + 1) n) v (cond s (l ▸ 0) (cond t (at_last (λ x. k) l) l))
-  numbered-same true t f = record { many = omega (arith, h.many, length-snoc l 0); here = h.here ∙ sym (get_d-snoc-zero l i) }
-  numbered-same false true f = record { many = h.many ∙ sym (length_last (λ x. k) l); here = h.here ∙ sym (get_d-before-last k l i (λ e. f refl refl (omega (arith, h.many)))) }
+  numbered-same true t f = record { many = omega (arith, h.many, length-snoc l 0); here = h.here ∙ sym (get_or-snoc-zero l i) }
+  numbered-same false true f = record { many = h.many ∙ sym (length_last (λ x. k) l); here = h.here ∙ sym (get_or-before-last k l i (λ e. f refl refl (omega (arith, h.many)))) }
   numbered-same false false f = h
 
   numbered-last : n ≡ i + 1 → Numbered i n k (at_last (λ x. k) l)
-  numbered-last e = record { many = h.many ∙ sym (length_last (λ x. k) l); here = sym (get_d-last k l i (omega (arith, h.many))) }
+  numbered-last e = record { many = h.many ∙ sym (length_last (λ x. k) l); here = sym (get_or-last k l i (omega (arith, h.many))) }
 
 module _ (i m v : ℕ) {u ls : List ℕ} {w : Walk} {l : List (Said Saying)} (n : Newly u ls w l (Numbering i m v)) (m' : ℕ) (c : m' ≡ count_no w.role 0 m) where
   numbers-by : (tell n.said n.tale).numbers ≡ cond (eqb w.role 0) (n.tale.numbers ▸ 0) (cond (eqb w.role 14) (at_last (λ x. detail_of n.said.what n.said.token.bytes) n.tale.numbers) n.tale.numbers)

@@ -20,21 +20,21 @@ module _ {ℓ} {A : Type ℓ} where
   length_last f (x ∷ []) = refl
   length_last f (x ∷ (y ∷ l)) = ap suc (length_last f (y ∷ l))
 
-  pub get_d-snoc-other : (l : List A) (a d : A) (i : ℕ) → i < length l → get_or (l ▸ a) i d ≡ get_or l i d
+  pub get_or-snoc-other : (l : List A) (a d : A) (i : ℕ) → i < length l → get_or (l ▸ a) i d ≡ get_or l i d
   unfolding ◌▸◌
-  get_d-snoc-other [] a d i h = absurd (omega arith)
-  get_d-snoc-other (x ∷ l) a d zero h = refl
-  get_d-snoc-other (x ∷ l) a d (suc i) h = get_d-snoc-other l a d i (omega arith)
+  get_or-snoc-other [] a d i h = absurd (omega arith)
+  get_or-snoc-other (x ∷ l) a d zero h = refl
+  get_or-snoc-other (x ∷ l) a d (suc i) h = get_or-snoc-other l a d i (omega arith)
 
-  pub get_d-snoc-last : (l : List A) (a d : A) → get_or (l ▸ a) (length l) d ≡ a
+  pub get_or-snoc-last : (l : List A) (a d : A) → get_or (l ▸ a) (length l) d ≡ a
   unfolding ◌▸◌
-  get_d-snoc-last [] a d = refl
-  get_d-snoc-last (x ∷ l) a d = get_d-snoc-last l a d
+  get_or-snoc-last [] a d = refl
+  get_or-snoc-last (x ∷ l) a d = get_or-snoc-last l a d
 
-  pub get_d_any : (l : List A) (i : ℕ) (d e : A) → i < length l → get_or l i d ≡ get_or l i e
-  get_d_any [] i d e h = absurd (omega arith)
-  get_d_any (x ∷ l) zero d e h = refl
-  get_d_any (x ∷ l) (suc i) d e h = get_d_any l i d e (omega arith)
+  pub get_or_any : (l : List A) (i : ℕ) (d e : A) → i < length l → get_or l i d ≡ get_or l i e
+  get_or_any [] i d e h = absurd (omega arith)
+  get_or_any (x ∷ l) zero d e h = refl
+  get_or_any (x ∷ l) (suc i) d e h = get_or_any l i d e (omega arith)
 
 module _ {ℓ ℓ'} {A : Type ℓ} {B : Type ℓ'} (g : A → B) where
   pub map_snoc : (l : List A) (a : A) → map g (l ▸ a) ≡ map g l ▸ g a

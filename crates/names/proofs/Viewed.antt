@@ -9,7 +9,7 @@ use Rattle.notation.specs.Hearing.{◌▸◌}
 use Rattle.names.specs.Tale as Tale
 use Rattle.names.specs.Tale.{Tale}
 use Rattle.names.specs.Order.{Standing, declaring, within, holding, between, declares, stays, node_begins, list_opens, list_shuts, name_held, path_goes, path_ends, settles}
-use Rattle.names.proofs.ViewLaws.{length-snoc, get_d-snoc-other, get_d-snoc-last}
+use Rattle.names.proofs.ViewLaws.{length-snoc, get_or-snoc-other, get_or-snoc-last}
 
 inj : {x y : Standing} → some x ≡ some y → x ≡ y
 inj e = some-injective _ _ e
@@ -34,7 +34,7 @@ Stands (between k) ps a n s = (length s ≡ k) × (n ≡ k) × (1 ≤ length ps)
 
 chain_snoc : (ps : List ℕ) (p a : ℕ) (s : List ℕ) → Chain ps a s → Chain (ps ▸ p) a s
 chain_snoc ps p a [] c = tt
-chain_snoc ps p a (v ∷ s) (e, h, c) = (e, rw length-snoc (omega arith), rw (get_d-snoc-other ps p 65535 a h) (chain_snoc ps p (get_or ps a 65535) s c))
+chain_snoc ps p a (v ∷ s) (e, h, c) = (e, rw length-snoc (omega arith), rw (get_or-snoc-other ps p 65535 a h) (chain_snoc ps p (get_or ps a 65535) s c))
 
 module _ (ps : List ℕ) (a n : ℕ) (s : List ℕ) where
   pub stands-declares : (q r : Standing) → declares q ≡ some r → Stands q ps a n s → Stands r ps a n s
@@ -80,7 +80,7 @@ module _ (ps : List ℕ) (a n : ℕ) (s : List ℕ) where
   stands-settles (between k) r e h = absurd (no e)
 
   last_snoc : get_or (ps ▸ a) (length (ps ▸ a) - 1) 65535 ≡ a
-  last_snoc = rw (length-snoc, less_one) (get_d-snoc-last ps a 65535)
+  last_snoc = rw (length-snoc, less_one) (get_or-snoc-last ps a 65535)
 
   pub stands-begins : (q r : Standing) → node_begins q ≡ some r → Stands q ps a n s → Stands r (ps ▸ a) a n s
   unfolding node_begins

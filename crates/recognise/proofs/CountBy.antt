@@ -12,7 +12,7 @@ use Rattle.recognise.specs.Counting as Counting
 use Rattle.recognise.specs.Counting.{flagged, weight_of, Change, adds, node, closes_one, settles, change_of, weights, changes, change_list, changed, count_of}
 use Rattle.recognise.proofs.Claims.{listing}
 use Rattle.recognise.proofs.Claimed.{listed}
-use Rattle.recognise.proofs.Rowing.{get_d-at_most, at_most}
+use Rattle.recognise.proofs.Rowing.{get_or-at_most, at_most}
 
 weights-right : listing (λ n. get_or weights n 0) 0 94 ≡ listing (λ n. weight_of (say_of n)) 0 94
 unfolding Codes.opened Counting.opened listing
@@ -24,7 +24,7 @@ changes-right = refl
 
 pub weight-small : (n : ℕ) → get_or weights n 0 ≤ 2
 unfolding weights at_most
-weight-small n = get_d-at_most 2 weights refl n
+weight-small n = get_or-at_most 2 weights refl n
 
 pub count_by : (n : ℕ) (p : ℕ) (c : Counts) → n < 94 → {w k : ℕ} → w ≡ get_or weights n 0 → k ≡ get_or changes n 0 → (x : Change) → get_or change_list k adds ≡ x
     → changed x w p c ≡ count_of (say_of n) p c

@@ -23,14 +23,14 @@ effect-marked e l u =
     let s : e ≡ 10 + (e - 10) = omega arith in
     ap effect_of s ∙ effect-marks (e - 10) (omega arith)
 
-get_d_past : {A : Type 0} (l : List A) (i : ℕ) (d : A) → length l ≤ i → get_or l i d ≡ d
-get_d_past [] i d h = refl
-get_d_past (x ∷ l) zero d h = absurd (native.Mathlib.Nat.not-suc-le-zero h)
-get_d_past (x ∷ l) (suc i) d h = get_d_past l i d (omega arith)
+get_or_past : {A : Type 0} (l : List A) (i : ℕ) (d : A) → length l ≤ i → get_or l i d ≡ d
+get_or_past [] i d h = refl
+get_or_past (x ∷ l) zero d h = absurd (native.Mathlib.Nat.not-suc-le-zero h)
+get_or_past (x ∷ l) (suc i) d h = get_or_past l i d (omega arith)
 
 pub effect-beyond : (e : ℕ) → 18 ≤ e → effect_of e ≡ refuses
 unfolding effect_list effect_of
-effect-beyond e h = get_d_past effect_list e refuses h
+effect-beyond e h = get_or_past effect_list e refuses h
 
 -- an effect that is none of those before the last
 pub effect-last : (e : ℕ) → e < 10 → (e ≡ 0 → ⊥) → (e ≡ 1 → ⊥) → (e ≡ 2 → ⊥) → (e ≡ 3 → ⊥) → (e ≡ 4 → ⊥) → (e ≡ 5 → ⊥) → (e ≡ 6 → ⊥) → (e ≡ 7 → ⊥) → (e ≡ 8 → ⊥) → effect_of e ≡ closes_paren

@@ -26,19 +26,19 @@ and_right : (a b : Bool) → a && b ≡ true → b ≡ true
 and_right true b h = h
 and_right false b h = cc
 
-pub get_d-at_most : (n : ℕ) (l : List ℕ) → at_most n l ≡ true → (i : ℕ) → get_or l i 0 ≤ n
+pub get_or-at_most : (n : ℕ) (l : List ℕ) → at_most n l ≡ true → (i : ℕ) → get_or l i 0 ≤ n
 unfolding at_most
-get_d-at_most n [] h i = omega arith
-get_d-at_most n (x ∷ xs) h zero = leb-true x n (and_left (leb x n) (at_most n xs) h)
-get_d-at_most n (x ∷ xs) h (suc i) = get_d-at_most n xs (and_right (leb x n) (at_most n xs) h) i
+get_or-at_most n [] h i = omega arith
+get_or-at_most n (x ∷ xs) h zero = leb-true x n (and_left (leb x n) (at_most n xs) h)
+get_or-at_most n (x ∷ xs) h (suc i) = get_or-at_most n xs (and_right (leb x n) (at_most n xs) h) i
 
 pub base-small : (p : ℕ) → get_or bases p 0 ≤ 194
 unfolding bases at_most
-base-small p = get_d-at_most 194 bases refl p
+base-small p = get_or-at_most 194 bases refl p
 
 pub say-small : (i : ℕ) → get_or say_numbers i 0 ≤ 93
 unfolding say_numbers at_most
-say-small i = get_d-at_most 93 say_numbers refl i
+say-small i = get_or-at_most 93 say_numbers refl i
 
 module _ (p k : ℕ) where
   pub row-past : 78 ≤ p → refusal ≡ row_of p k
@@ -64,4 +64,4 @@ step_by a k {m} x {r} h e g = g ∙ ap (moved a m) (sym e) ∙ ap (λ (n : Move)
 
 pub next_small : (i : ℕ) → get_or nexts i 0 ≤ 77
 unfolding nexts at_most
-next_small i = get_d-at_most 77 nexts refl i
+next_small i = get_or-at_most 77 nexts refl i

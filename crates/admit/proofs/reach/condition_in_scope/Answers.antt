@@ -1,7 +1,7 @@
 -- Default, or a tree in scope.
 use mathlib.Core.Path.{refl, sym, ◌∙◌}
 use native.Mathlib.Omega.{arith}
-use Rattle.plexil.proofs.TestLaws.{one_passes, or_else, or-last, eq_yes, eq_no}
+use Rattle.plexil.proofs.TestLaws.{one_passes, or-else, or-last, eq_yes, eq_no}
 use Rattle.admit.proofs.OwnerLaws.{few-entries, given-within}
 use Rattle.admit.proofs.reach.condition_in_scope.Goals as goal
 
@@ -12,4 +12,4 @@ pub bounds-owners-e : goal.bounds-owners-e
 bounds-owners-e c = omega (arith, given-within _ c.requires.ordered _ _ _ c.requires.i_bound c.condition_field-e.ensures c.if-e.false, few-entries _ c.requires.ordered)
 
 pub returns : goal.returns
-returns c = or_else _ (eq_no c.condition_field-e.ensures refl c.if-e.false) (or-last (rw c.condition_field-e.ensures at (c.allowed.ensures ∙ sym (c.requires.owned.asks _ (given-within _ c.requires.ordered _ _ _ c.requires.i_bound c.condition_field-e.ensures c.if-e.false) _ c.requires.i_bound))))
+returns c = or-else _ (eq_no c.condition_field-e.ensures refl c.if-e.false) (or-last (rw c.condition_field-e.ensures at (c.allowed.ensures ∙ sym (c.requires.owned.asks _ (given-within _ c.requires.ordered _ _ _ c.requires.i_bound c.condition_field-e.ensures c.if-e.false) _ c.requires.i_bound))))

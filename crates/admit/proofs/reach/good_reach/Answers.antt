@@ -1,7 +1,7 @@
 -- The conditions, then the assignment.
 use mathlib.Core.Path.{sym, ◌∙◌}
 use Rattle.plexil.specs.Scope.{good_reach}
-use Rattle.plexil.proofs.TestLaws.{one-fails, and_then, and_last}
+use Rattle.plexil.proofs.TestLaws.{one-fails, and-then, and_last}
 use Rattle.admit.proofs.reach.good_reach.Goals as goal
 
 pub conditions_in_scope-requires : goal.conditions_in_scope-requires
@@ -14,7 +14,7 @@ assignment_in_scope-requires c = record { ordered = c.requires.ordered; owned = 
 
 pub returns-then-conditions_in_scope : goal.returns-then-conditions_in_scope
 unfolding good_reach
-returns-then-conditions_in_scope c = and_then _ (sym c.conditions_in_scope.ensures ∙ c.if-conditions_in_scope.true) (and_last c.assignment_in_scope.ensures)
+returns-then-conditions_in_scope c = and-then _ (sym c.conditions_in_scope.ensures ∙ c.if-conditions_in_scope.true) (and_last c.assignment_in_scope.ensures)
 
 pub returns-else-conditions_in_scope : goal.returns-else-conditions_in_scope
 unfolding good_reach

@@ -3,7 +3,7 @@ use Prim.Native.Nat.{ℕ, ◌+◌}
 use mathlib.Core.Path.{refl, sym, ap, ◌∙◌}
 use Rattle.plexil.specs.Expressions.{constant_op, variable_op, lookup_op, status_op, outcome_op, failure_op, operator_of}
 use Rattle.plexil.proofs.OperatorNumbers.{NoneOf}
-use Rattle.plexil.proofs.TestLaws.{one_passes, or_else, or-last}
+use Rattle.plexil.proofs.TestLaws.{one_passes, or-else, or-last}
 use Rattle.evaluate.proofs.Laws.{is-a, is_b}
 use Rattle.answers.specs.Changes.{up, leaf_touched}
 use Rattle.answers.proofs.FlagLaws.{touched-leaf, touched-not, touched-two}
@@ -48,5 +48,5 @@ returns-in-6 c = touched-not _ _ _ c.args.changed.now c.requires.0 c.byte_at-op.
 
 pub returns-else-is_up : goal.returns-else-is_up
 returns-else-is_up c = unfold NoneOf in touched-two _ _ _ c.args.changed.now c.requires.0 c.byte_at-op.ensures c.in_default.in_default-own.rest
-    (or_else _ (sym (ap (up c.args.changed.now) (is-a _ _ c.requires.0 c.le16-a.ensures)) ∙ (sym c.is_up-in_default.ensures ∙ c.if-is_up.false))
+    (or-else _ (sym (ap (up c.args.changed.now) (is-a _ _ c.requires.0 c.le16-a.ensures)) ∙ (sym c.is_up-in_default.ensures ∙ c.if-is_up.false))
     (or-last (c.is_up-in_default-2.ensures ∙ ap (up c.args.changed.now) (is_b _ _ c.requires.0 c.le16.ensures))))

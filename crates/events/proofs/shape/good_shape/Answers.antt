@@ -2,7 +2,7 @@
 use Rattle.std.proofs.Common.{ℕ, leb, sym, refl, ap, ◌∙◌, rules, le-leb}
 use borrow.Author.Tests.{lt-leb}
 use Rattle.plexil.specs.Macro.{good_shape}
-use Rattle.plexil.proofs.TestLaws.{one-fails, and_then, and_last, eq_yes, eq_no}
+use Rattle.plexil.proofs.TestLaws.{one-fails, and-then, and_last, eq_yes, eq_no}
 use Rattle.events.proofs.Laws.{long_as}
 use Rattle.events.proofs.shape.good_shape.Goals as goal
 
@@ -28,6 +28,6 @@ overflow_add-result c = search rules
 
 pub returns : goal.returns
 unfolding good_shape
-returns c = and_then _ (ap (λ (n : ℕ). leb n 128) (sym c.entry_count-n.ensures) ∙ le-leb _ _ c.if-n-gt128.false)
-    (and_then _ (eq_yes c.le16.ensures refl c.if-le16-ne0.false)
+returns c = and-then _ (ap (λ (n : ℕ). leb n 128) (sym c.entry_count-n.ensures) ∙ le-leb _ _ c.if-n-gt128.false)
+    (and-then _ (eq_yes c.le16.ensures refl c.if-le16-ne0.false)
     (and_last (long_as _ c.entry_count-n.ensures)))

@@ -2,7 +2,7 @@
 use mathlib.Core.Path.{refl, ap, ap₂, ◌∙◌}
 use Rattle.plexil.specs.Places.{outcome_at, failure_at}
 use Rattle.plexil.specs.Form.{allowed, of_type, good_place}
-use Rattle.plexil.proofs.TestLaws.{told, one-fails, and_then, and_last, lt_yes, lt_no}
+use Rattle.plexil.proofs.TestLaws.{told, one-fails, and-then, and_last, lt_yes, lt_no}
 use Rattle.plexil.proofs.ListLaws.{stands}
 use Rattle.form.proofs.nodes.good_place.Goals as goal
 
@@ -20,11 +20,11 @@ returns-then-at-ge6 c = λ s e o f m. one-fails _ 2 (lt_no (stands _ _ f c.at-3.
 
 pub returns-then-of_type : goal.returns-then-of_type
 unfolding good_place outcome_at failure_at
-returns-then-of_type c = λ s e o f m. and_then _ (lt_yes (stands _ _ e c.at.ensures) refl c.if-at-ge7.false)
-    (and_then _ (lt_yes (stands _ _ o c.at-2.ensures) refl c.if-at-ge4.false)
-    (and_then _ (lt_yes (stands _ _ f c.at-3.ensures) refl c.if-at-ge6.false)
-    (and_then _ (told (c.allowed.ensures ∙ ap₂ allowed (c.parent_status.ensures s e) (c.status_at-c.ensures s e)) c.if-allowed.true)
-    (and_then _ (told (c.of_type.ensures ∙ ap (of_type _ _) (c.status_at-c.ensures s e)) c.if-of_type.true)
+returns-then-of_type c = λ s e o f m. and-then _ (lt_yes (stands _ _ e c.at.ensures) refl c.if-at-ge7.false)
+    (and-then _ (lt_yes (stands _ _ o c.at-2.ensures) refl c.if-at-ge4.false)
+    (and-then _ (lt_yes (stands _ _ f c.at-3.ensures) refl c.if-at-ge6.false)
+    (and-then _ (told (c.allowed.ensures ∙ ap₂ allowed (c.parent_status.ensures s e) (c.status_at-c.ensures s e)) c.if-allowed.true)
+    (and-then _ (told (c.of_type.ensures ∙ ap (of_type _ _) (c.status_at-c.ensures s e)) c.if-of_type.true)
     (and_last (c.good_mark.ensures s e m))))))
 
 pub returns-else-of_type : goal.returns-else-of_type

@@ -1,11 +1,11 @@
 -- Array after array.
-use Rattle.plexil.proofs.TestLaws.{told, one-fails, and_then, and_last}
+use Rattle.plexil.proofs.TestLaws.{told, one-fails, and-then, and_last}
 use Rattle.form.proofs.unused.nodes_empty.Goals as goal
 
 pub returns-then-zero_from-3 : goal.returns-then-zero_from-3
-returns-then-zero_from-3 c = and_then _ (told c.zero_from.ensures c.if-zero_from.true)
-    (and_then _ (told c.zero_from-then-zero_from.ensures c.if-zero_from-2.true)
-    (and_then _ (told c.zero_from-then-zero_from-2.ensures c.if-zero_from-3.true)
+returns-then-zero_from-3 c = and-then _ (told c.zero_from.ensures c.if-zero_from.true)
+    (and-then _ (told c.zero_from-then-zero_from.ensures c.if-zero_from-2.true)
+    (and-then _ (told c.zero_from-then-zero_from-2.ensures c.if-zero_from-3.true)
     (and_last c.zero_from-then-zero_from-3.ensures)))
 
 pub returns-else-zero_from-3 : goal.returns-else-zero_from-3

@@ -8,7 +8,7 @@ use Rattle.recognise.specs.Codes as Codes
 use Rattle.recognise.specs.Codes.{sayings}
 use Rattle.names.specs.Roles as Roles
 use Rattle.names.specs.Roles.{role_of, role_number}
-use Rattle.names.proofs.ViewLaws.{get_d_any}
+use Rattle.names.proofs.ViewLaws.{get_or_any}
 use Rattle.names.proofs.roles.role_of.Goals as goal
 
 many : length sayings ≡ 94
@@ -21,4 +21,4 @@ returns-then-says-ge94 c = sym (rw (get_or-eq_default sayings silence {n = c.arg
 
 pub returns : goal.returns
 unfolding Codes.opened Roles.opened
-returns c = get_d_any (map (λ x. role_number (role_of x)) sayings) c.args.says 0 15 (search rules) ∙ get_or-map (λ x. role_number (role_of x)) sayings c.args.says silence
+returns c = get_or_any (map (λ x. role_number (role_of x)) sayings) c.args.says 0 15 (search rules) ∙ get_or-map (λ x. role_number (role_of x)) sayings c.args.says silence

@@ -2,7 +2,7 @@
 use mathlib.Core.Path.{ap, sym}
 use mathlib.Core.Bool.{not}
 use borrow.Author.Tests.{le-leb, lt-leb}
-use Rattle.plexil.proofs.TestLaws.{one-fails, and_then, and_last}
+use Rattle.plexil.proofs.TestLaws.{one-fails, and-then, and_last}
 use Rattle.read.specs.Limits.{fits}
 use Rattle.read.proofs.limits.over_limits.Goals as goal
 
@@ -24,4 +24,4 @@ returns-then-seen-gt64 c = ap not (one-fails _ 3 (lt-leb _ _ c.if-seen-gt64.true
 
 pub returns : goal.returns
 unfolding fits
-returns c = ap not (and_then _ (le-leb _ _ c.if-seen-gt256.false) (and_then _ (le-leb _ _ c.if-seen-gt2048.false) (and_then _ (le-leb _ _ c.if-seen-gt128.false) (and_last (sym (le-leb _ _ c.if-seen-gt64.false))))))
+returns c = ap not (and-then _ (le-leb _ _ c.if-seen-gt256.false) (and-then _ (le-leb _ _ c.if-seen-gt2048.false) (and-then _ (le-leb _ _ c.if-seen-gt128.false) (and_last (sym (le-leb _ _ c.if-seen-gt64.false))))))

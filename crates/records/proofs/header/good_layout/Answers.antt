@@ -3,7 +3,7 @@ use mathlib.Core.Path.{ap, refl}
 use borrow.Author.Rules.{rules}
 use lib.Dec.{eqb}
 use Rattle.plexil.specs.Records.{good_layout}
-use Rattle.plexil.proofs.TestLaws.{one-fails, and_then, and_last, eq_yes, eq_no}
+use Rattle.plexil.proofs.TestLaws.{one-fails, and-then, and_last, eq_yes, eq_no}
 use Rattle.records.proofs.header.good_layout.Goals as goal
 
 pub returns-then-header-ne20 : goal.returns-then-header-ne20
@@ -48,9 +48,9 @@ overflow_cast-result c = search rules
 
 pub returns : goal.returns
 unfolding good_layout
-returns c = and_then _ (eq_yes c.header.ensures refl c.if-header-ne20.false)
-    (and_then _ (eq_yes c.header-2.ensures c.exprs_at.ensures c.if-header-exprs_at.false)
-    (and_then _ (eq_yes c.header-3.ensures c.vars_at.ensures c.if-header-vars_at.false)
-    (and_then _ (eq_yes c.header-4.ensures c.looks_at.ensures c.if-header-looks_at.false)
-    (and_then _ (eq_yes c.header-5.ensures c.end_at-end.ensures c.if-header-end.false)
+returns c = and-then _ (eq_yes c.header.ensures refl c.if-header-ne20.false)
+    (and-then _ (eq_yes c.header-2.ensures c.exprs_at.ensures c.if-header-exprs_at.false)
+    (and-then _ (eq_yes c.header-3.ensures c.vars_at.ensures c.if-header-vars_at.false)
+    (and-then _ (eq_yes c.header-4.ensures c.looks_at.ensures c.if-header-looks_at.false)
+    (and-then _ (eq_yes c.header-5.ensures c.end_at-end.ensures c.if-header-end.false)
     (and_last (ap (eqb _) c.end_at-end.ensures))))))

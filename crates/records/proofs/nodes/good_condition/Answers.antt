@@ -1,7 +1,7 @@
 -- Default, or an expression.
 use mathlib.Core.Path.{refl}
 use Rattle.plexil.specs.Records.{good_condition}
-use Rattle.plexil.proofs.TestLaws.{one_passes, or_else, or-last, eq_yes, eq_no}
+use Rattle.plexil.proofs.TestLaws.{one_passes, or-else, or-last, eq_yes, eq_no}
 use Rattle.records.proofs.nodes.good_condition.Goals as goal
 
 pub returns-then-e : goal.returns-then-e
@@ -10,4 +10,4 @@ returns-then-e c = one_passes _ (eq_yes c.condition_field-e.ensures refl c.if-e.
 
 pub returns : goal.returns
 unfolding good_condition
-returns c = or_else _ (eq_no c.condition_field-e.ensures refl c.if-e.false) (or-last (rw (c.condition_field-e.ensures, c.expr_count.ensures)))
+returns c = or-else _ (eq_no c.condition_field-e.ensures refl c.if-e.false) (or-last (rw (c.condition_field-e.ensures, c.expr_count.ensures)))

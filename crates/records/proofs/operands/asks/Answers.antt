@@ -2,7 +2,7 @@
 use mathlib.Core.Path.{ap, refl}
 use lib.Dec.{eqb}
 use Rattle.plexil.specs.Records.{asks}
-use Rattle.plexil.proofs.TestLaws.{one-fails, and_then, and_last, eq_yes, eq_no, lt_yes, lt_no}
+use Rattle.plexil.proofs.TestLaws.{one-fails, and-then, and_last, eq_yes, eq_no, lt_yes, lt_no}
 use Rattle.records.proofs.operands.asks.Goals as goal
 
 pub returns-then-operand_a-node_count : goal.returns-then-operand_a-node_count
@@ -19,7 +19,7 @@ returns-then-result_kind-ne0 c = one-fails _ 2 (eq_no c.result_kind.ensures refl
 
 pub returns : goal.returns
 unfolding asks
-returns c = and_then _ (lt_yes c.operand_a.ensures c.node_count.ensures c.if-operand_a-node_count.false)
-    (and_then _ (lt_yes c.operand_b.ensures refl c.if-operand_b-n.false)
-    (and_then _ (eq_yes c.result_kind.ensures refl c.if-result_kind-ne0.false)
+returns c = and-then _ (lt_yes c.operand_a.ensures c.node_count.ensures c.if-operand_a-node_count.false)
+    (and-then _ (lt_yes c.operand_b.ensures refl c.if-operand_b-n.false)
+    (and-then _ (eq_yes c.result_kind.ensures refl c.if-result_kind-ne0.false)
     (and_last (ap (λ n. eqb n 0) c.constant.ensures))))
