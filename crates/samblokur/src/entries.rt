@@ -6,8 +6,7 @@ use super::reports::Report;
 use plexil::{Card, Counts, State};
 
 // Checks a plan image.
-#[unsafe(no_mangle)]
-pub extern "C" fn samblokur_check(image: &[u8], counts: &mut Counts, report: &mut Report) -> u32
+pub fn samblokur_check(image: &[u8], counts: &mut Counts, report: &mut Report) -> u32
     ensures { CheckLeaves image.now result counts.new report.new }
 {
     let r = calls::check(image);
@@ -17,13 +16,7 @@ pub extern "C" fn samblokur_check(image: &[u8], counts: &mut Counts, report: &mu
 }
 
 // Sets state and card to the plan's fresh start.
-#[unsafe(no_mangle)]
-pub extern "C" fn samblokur_fresh(
-    image: &[u8],
-    state: &mut State,
-    card: &mut Card,
-    report: &mut Report,
-) -> u32
+pub fn samblokur_fresh(image: &[u8], state: &mut State, card: &mut Card, report: &mut Report) -> u32
     ensures { FreshLeaves image.now state.old card.old result state.new card.new report.new }
 {
     let r = calls::fresh(image, *state, *card);
@@ -34,8 +27,7 @@ pub extern "C" fn samblokur_fresh(
 }
 
 // Runs to quiet under a step budget and writes the command words into list from place start on.
-#[unsafe(no_mangle)]
-pub extern "C" fn samblokur_run(
+pub fn samblokur_run(
     image: &[u8],
     state: &mut State,
     card: &mut Card,
@@ -54,8 +46,7 @@ pub extern "C" fn samblokur_run(
 }
 
 // One call per report: the event enters, and the run begins.
-#[unsafe(no_mangle)]
-pub extern "C" fn samblokur_turn(
+pub fn samblokur_turn(
     image: &[u8],
     state: &mut State,
     card: &mut Card,
