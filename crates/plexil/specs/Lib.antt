@@ -1,4 +1,5 @@
 pub mod Lists
+pub mod Searches
 pub mod Bytes
 pub mod Values
 pub mod Image

@@ -1,5 +1,9 @@
-// The types that the code and the definitions of document 01 share. No function: what they mean is in specs/.
+// The types that the code and the definitions of document 01 share: what they mean is in specs/. Of functions only lists.rt's searches and get_or.
 #![tactic(auto)]
+
+mod lists;
+
+pub use lists::{all_below, any_below, first, get_or};
 
 // A worked-out expression: a known value carries its kind. Clash: a value of another kind was met.
 #[derive(Clone, Copy)]
