@@ -34,20 +34,10 @@ pub struct Ending {
 }
 
 // "gives Success, failure none, if Post is True, else Failure, Post"
-fn judged<'a>(
-    image: &'a [u8],
-    st: &'a [u8],
-    oc: &'a [u8],
-    fl: &'a [u8],
-    vt: &'a [u8],
-    vb: &'a [u64],
-    lt: &'a [u8],
-    lb: &'a [u64],
-    i: u16,
-) -> Ending
-    ensures { (mark : List ℕ) → result ≡ ending_of (ending_by image.now (state_of st.now oc.now fl.now mark vt.now vb.now lt.now lb.now) i effect.Judged) }
+fn judged(image: &[u8], before: &Before, i: u16) -> Ending
+    ensures { result ≡ ending_of (ending_by image.now (state_in before.now) i effect.Judged) }
 {
-    if evaluate::holds(image, st, oc, fl, vt, vb, lt, lb, i, Condition::Post, true) {
+    if evaluate::holds(image, &before.seen, i, Condition::Post, true) {
         return Ending {
             outcome: 1,
             failure: 0,
@@ -60,19 +50,8 @@ fn judged<'a>(
 }
 
 // What an effect makes of them.
-fn ending_by<'a>(
-    image: &'a [u8],
-    st: &'a [u8],
-    oc: &'a [u8],
-    fl: &'a [u8],
-    vt: &'a [u8],
-    vb: &'a [u64],
-    lt: &'a [u8],
-    lb: &'a [u64],
-    i: u16,
-    e: Effect,
-) -> Ending
-    ensures { (mark : List ℕ) → result ≡ ending_of (ending_by image.now (state_of st.now oc.now fl.now mark vt.now vb.now lt.now lb.now) i e) }
+fn ending_by(image: &[u8], before: &Before, i: u16, e: Effect) -> Ending
+    ensures { result ≡ ending_of (ending_by image.now (state_in before.now) i e) }
 {
     match e {
         Effect::Kept => Ending {
@@ -91,28 +70,15 @@ fn ending_by<'a>(
             outcome: o,
             failure: f,
         },
-        Effect::Judged => judged(image, st, oc, fl, vt, vb, lt, lb, i),
+        Effect::Judged => judged(image, before, i),
     }
 }
 
 // Status a with effect e.
-fn gone<'a>(
-    image: &'a [u8],
-    st: &'a [u8],
-    oc: &'a [u8],
-    fl: &'a [u8],
-    mk: &'a [u8],
-    vt: &'a [u8],
-    vb: &'a [u64],
-    lt: &'a [u8],
-    lb: &'a [u64],
-    i: u16,
-    a: Status,
-    e: Effect,
-) -> Place
-    ensures { result ≡ place_by image.now (state_of st.now oc.now fl.now mk.now vt.now vb.now lt.now lb.now) i (move.Go a e) }
+fn gone(image: &[u8], before: &Before, i: u16, a: Status, e: Effect) -> Place
+    ensures { result ≡ place_by image.now (state_in before.now) i (move.Go a e) }
 {
-    let r = ending_by(image, st, oc, fl, vt, vb, lt, lb, i, e);
+    let r = ending_by(image, before, i, e);
     Place {
         status: status_code(a),
         outcome: r.outcome,
@@ -122,20 +88,8 @@ fn gone<'a>(
 }
 
 // "What a rule does not name stays"
-pub fn place_by<'a>(
-    image: &'a [u8],
-    st: &'a [u8],
-    oc: &'a [u8],
-    fl: &'a [u8],
-    mk: &'a [u8],
-    vt: &'a [u8],
-    vb: &'a [u64],
-    lt: &'a [u8],
-    lb: &'a [u64],
-    i: u16,
-    m: Move,
-) -> Place
-    ensures { result ≡ place_by image.now (state_of st.now oc.now fl.now mk.now vt.now vb.now lt.now lb.now) i m }
+pub fn place_by(image: &[u8], before: &Before, i: u16, m: Move) -> Place
+    ensures { result ≡ place_by image.now (state_in before.now) i m }
 {
     match m {
         Move::Stay => Place {
@@ -144,7 +98,7 @@ pub fn place_by<'a>(
             failure: at(fl, i),
             mark: at(mk, i),
         },
-        Move::Go(a, e) => gone(image, st, oc, fl, mk, vt, vb, lt, lb, i, a, e),
+        Move::Go(a, e) => gone(image, before, i, a, e),
     }
 }
 

@@ -12,24 +12,14 @@ use places::{at, parent_status, same, status_at};
 use plexil::{Condition, Effect, Move, Status};
 
 // "Skip True, then Finished, Skipped. Else Start True: Pre True, then Executing ..; otherwise IterationEnded, Failure, Pre"
-fn from_waiting<'a>(
-    image: &'a [u8],
-    st: &'a [u8],
-    oc: &'a [u8],
-    fl: &'a [u8],
-    vt: &'a [u8],
-    vb: &'a [u64],
-    lt: &'a [u8],
-    lb: &'a [u64],
-    i: u16,
-) -> Move
-    ensures { result ≡ from_waiting image.now (seen_of st.now oc.now fl.now vt.now vb.now lt.now lb.now) i }
+fn from_waiting(image: &[u8], seen: &Seen, i: u16) -> Move
+    ensures { result ≡ from_waiting image.now (seen_in seen.now) i }
 {
-    if evaluate::holds(image, st, oc, fl, vt, vb, lt, lb, i, Condition::Skip, false) {
+    if evaluate::holds(image, seen, i, Condition::Skip, false) {
         return Move::Go(Status::Finished, Effect::Skipped);
     }
-    if evaluate::holds(image, st, oc, fl, vt, vb, lt, lb, i, Condition::Start, true) {
-        if evaluate::holds(image, st, oc, fl, vt, vb, lt, lb, i, Condition::Pre, true) {
+    if evaluate::holds(image, seen, i, Condition::Start, true) {
+        if evaluate::holds(image, seen, i, Condition::Pre, true) {
             return Move::Go(Status::Executing, Effect::Kept);
         }
         return Move::Go(Status::IterationEnded, Effect::Failed(2, 1));
@@ -75,38 +65,19 @@ fn end_default(image: &[u8], i: u16, finished: bool) -> bool
 }
 
 // "parent Failing gives failure Parent; else Inv False gives Invariant"; else End True
-fn from_executing<'a>(
-    image: &'a [u8],
-    st: &'a [u8],
-    oc: &'a [u8],
-    fl: &'a [u8],
-    mk: &'a [u8],
-    vt: &'a [u8],
-    vb: &'a [u64],
-    lt: &'a [u8],
-    lb: &'a [u64],
-    i: u16,
-    u: Status,
-    finished: bool,
-) -> Move
-    requires { finished ≡ children image.now (state_of st.now oc.now fl.now mk.now vt.now vb.now lt.now lb.now) i is_finished }
-    ensures { result ≡ by_status status.Executing u image.now (state_of st.now oc.now fl.now mk.now vt.now vb.now lt.now lb.now) i }
+fn from_executing(image: &[u8], before: &Before, i: u16, u: Status, finished: bool) -> Move
+    requires { finished ≡ children image.now (state_in before.now) i is_finished }
+    ensures { result ≡ by_status status.Executing u image.now (state_in before.now) i }
 {
     if same(u, Status::Failing) {
         return fails_by(image, i, 2, 4);
     }
-    if evaluate::fails(image, st, oc, fl, vt, vb, lt, lb, i, Condition::Inv, true) {
+    if evaluate::fails(image, &before.seen, i, Condition::Inv, true) {
         return fails_by(image, i, 2, 3);
     }
     if evaluate::holds(
         image,
-        st,
-        oc,
-        fl,
-        vt,
-        vb,
-        lt,
-        lb,
+        &before.seen,
         i,
         Condition::End,
         end_default(image, i, finished),
@@ -117,27 +88,14 @@ fn from_executing<'a>(
 }
 
 // "the same two failures to Failing; else all children Waiting or Finished: IterationEnded"
-fn from_finishing<'a>(
-    image: &'a [u8],
-    st: &'a [u8],
-    oc: &'a [u8],
-    fl: &'a [u8],
-    mk: &'a [u8],
-    vt: &'a [u8],
-    vb: &'a [u64],
-    lt: &'a [u8],
-    lb: &'a [u64],
-    i: u16,
-    u: Status,
-    resting: bool,
-) -> Move
-    requires { resting ≡ children image.now (state_of st.now oc.now fl.now mk.now vt.now vb.now lt.now lb.now) i is_resting }
-    ensures { result ≡ by_status status.Finishing u image.now (state_of st.now oc.now fl.now mk.now vt.now vb.now lt.now lb.now) i }
+fn from_finishing(image: &[u8], before: &Before, i: u16, u: Status, resting: bool) -> Move
+    requires { resting ≡ children image.now (state_in before.now) i is_resting }
+    ensures { result ≡ by_status status.Finishing u image.now (state_in before.now) i }
 {
     if same(u, Status::Failing) {
         return fails_by(image, i, 2, 4);
     }
-    if evaluate::fails(image, st, oc, fl, vt, vb, lt, lb, i, Condition::Inv, true) {
+    if evaluate::fails(image, &before.seen, i, Condition::Inv, true) {
         return fails_by(image, i, 2, 3);
     }
     if resting {
@@ -161,37 +119,14 @@ fn is_settled(image: &[u8], mk: &[u8], i: u16, resting: bool) -> bool
 }
 
 // "parent Finishing or Failing: Finished. Parent Executing: Repeat True gives Waiting, outcome and failure cleared; else Finished"
-fn from_ended<'a>(
-    image: &'a [u8],
-    st: &'a [u8],
-    oc: &'a [u8],
-    fl: &'a [u8],
-    vt: &'a [u8],
-    vb: &'a [u64],
-    lt: &'a [u8],
-    lb: &'a [u64],
-    i: u16,
-    u: Status,
-) -> Move
-    ensures { result ≡ from_ended u image.now (seen_of st.now oc.now fl.now vt.now vb.now lt.now lb.now) i }
+fn from_ended(image: &[u8], seen: &Seen, i: u16, u: Status) -> Move
+    ensures { result ≡ from_ended u image.now (seen_in seen.now) i }
 {
     if is_closing(u) {
         return Move::Go(Status::Finished, Effect::Kept);
     }
     if same(u, Status::Executing) {
-        if evaluate::holds(
-            image,
-            st,
-            oc,
-            fl,
-            vt,
-            vb,
-            lt,
-            lb,
-            i,
-            Condition::Repeat,
-            false,
-        ) {
+        if evaluate::holds(image, seen, i, Condition::Repeat, false) {
             return Move::Go(Status::Waiting, Effect::Cleared);
         }
         return Move::Go(Status::Finished, Effect::Kept);
@@ -200,25 +135,18 @@ fn from_ended<'a>(
 }
 
 // The rules of each status; u is the parent's.
-fn by_status<'a>(
-    image: &'a [u8],
-    st: &'a [u8],
-    oc: &'a [u8],
-    fl: &'a [u8],
-    mk: &'a [u8],
-    vt: &'a [u8],
-    vb: &'a [u64],
-    lt: &'a [u8],
-    lb: &'a [u64],
+fn by_status(
+    image: &[u8],
+    before: &Before,
     i: u16,
     own: Status,
     u: Status,
     finished: bool,
     resting: bool,
 ) -> Move
-    requires finished_value { finished ≡ children image.now (state_of st.now oc.now fl.now mk.now vt.now vb.now lt.now lb.now) i is_finished }
-    requires resting_value { resting ≡ children image.now (state_of st.now oc.now fl.now mk.now vt.now vb.now lt.now lb.now) i is_resting }
-    ensures { result ≡ by_status own u image.now (state_of st.now oc.now fl.now mk.now vt.now vb.now lt.now lb.now) i }
+    requires finished_value { finished ≡ children image.now (state_in before.now) i is_finished }
+    requires resting_value { resting ≡ children image.now (state_in before.now) i is_resting }
+    ensures { result ≡ by_status own u image.now (state_in before.now) i }
 {
     match own {
         Status::Inactive => {
@@ -230,13 +158,13 @@ fn by_status<'a>(
         }
         Status::Waiting => {
             if same(u, Status::Executing) {
-                from_waiting(image, st, oc, fl, vt, vb, lt, lb, i)
+                from_waiting(image, &before.seen, i)
             } else {
                 Move::Stay
             }
         }
-        Status::Executing => from_executing(image, st, oc, fl, mk, vt, vb, lt, lb, i, u, finished),
-        Status::Finishing => from_finishing(image, st, oc, fl, mk, vt, vb, lt, lb, i, u, resting),
+        Status::Executing => from_executing(image, before, i, u, finished),
+        Status::Finishing => from_finishing(image, before, i, u, resting),
         Status::Failing => {
             if is_settled(image, mk, i, resting) {
                 Move::Go(Status::IterationEnded, Effect::Kept)
@@ -244,7 +172,7 @@ fn by_status<'a>(
                 Move::Stay
             }
         }
-        Status::IterationEnded => from_ended(image, st, oc, fl, vt, vb, lt, lb, i, u),
+        Status::IterationEnded => from_ended(image, &before.seen, i, u),
         Status::Finished => Move::Stay,
     }
 }
@@ -260,30 +188,15 @@ fn is_cut_off(own: Status, u: Status) -> bool
 }
 
 // "First rule that applies"
-pub fn move_of<'a>(
-    image: &'a [u8],
-    st: &'a [u8],
-    oc: &'a [u8],
-    fl: &'a [u8],
-    mk: &'a [u8],
-    vt: &'a [u8],
-    vb: &'a [u64],
-    lt: &'a [u8],
-    lb: &'a [u64],
-    i: u16,
-    finished: bool,
-    resting: bool,
-) -> Move
-    requires finished_value { finished ≡ children image.now (state_of st.now oc.now fl.now mk.now vt.now vb.now lt.now lb.now) i is_finished }
-    requires resting_value { resting ≡ children image.now (state_of st.now oc.now fl.now mk.now vt.now vb.now lt.now lb.now) i is_resting }
-    ensures { result ≡ move_of image.now (state_of st.now oc.now fl.now mk.now vt.now vb.now lt.now lb.now) i }
+pub fn move_of(image: &[u8], before: &Before, i: u16, finished: bool, resting: bool) -> Move
+    requires finished_value { finished ≡ children image.now (state_in before.now) i is_finished }
+    requires resting_value { resting ≡ children image.now (state_in before.now) i is_resting }
+    ensures { result ≡ move_of image.now (state_in before.now) i }
 {
     let own = status_at(st, i);
     let u = parent_status(image, st, i);
     if is_cut_off(own, u) {
         return Move::Go(Status::Inactive, Effect::Cleared);
     }
-    by_status(
-        image, st, oc, fl, mk, vt, vb, lt, lb, i, own, u, finished, resting,
-    )
+    by_status(image, before, i, own, u, finished, resting)
 }

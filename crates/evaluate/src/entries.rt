@@ -1,56 +1,34 @@
 // The evaluation of an expression entry without recursion: the operators that wait for an operand stand in arrays of twelve places.
-// What expressions read is lent array by array, in Seen's order.
 ghost use Rattle.std.specs.Prelude.{◌≡◌, ◌<◌};
-ghost use Rattle.plexil.specs.Places.{seen_of};
+ghost use Rattle.plexil.specs.Lent.{seen_in};
 ghost use Rattle.plexil.specs.Expressions.{value_of};
 ghost use Rattle.evaluate.specs.Leaves.{leaf_answer};
 
 use super::binary::join;
 use super::leaves::{cell_value, code_is, constant};
-use plexil::Worked;
+use plexil::{Seen, Worked};
 
 // The answer of an entry without operands, whose record stands at `at`; any other number is no leaf.
-pub fn leaf<'a>(
-    image: &'a [u8],
-    at: u32,
-    op: u8,
-    st: &'a [u8],
-    oc: &'a [u8],
-    fl: &'a [u8],
-    vt: &'a [u8],
-    vb: &'a [u64],
-    lt: &'a [u8],
-    lb: &'a [u64],
-) -> Worked
+pub fn leaf(image: &[u8], at: u32, op: u8, seen: &Seen) -> Worked
     requires { at < 4000000 }
-    ensures { result ≡ leaf_answer image.now at op (seen_of st.now oc.now fl.now vt.now vb.now lt.now lb.now) }
+    ensures { result ≡ leaf_answer image.now at op (seen_in seen.now) }
 {
     let a = image::le16(image, at + 2);
     let b = image::le16(image, at + 4);
     match op {
         0 => constant(b, image::byte_at(image, at + 1), image::le64(image, at + 8)),
-        1 => cell_value(vt, vb, a),
-        2 => cell_value(lt, lb, a),
-        3 => code_is(st, a, b),
-        4 => code_is(oc, a, b),
-        5 => code_is(fl, a, b),
+        1 => cell_value(seen.vartags, seen.varbits, a),
+        2 => cell_value(seen.looktags, seen.lookbits, a),
+        3 => code_is(seen.status, a, b),
+        4 => code_is(seen.outcome, a, b),
+        5 => code_is(seen.failure, a, b),
         _ => Worked::Clash,
     }
 }
 
 // "an expression tree is at most 12 deep": as many operators can be pending.
-pub fn value_of<'a>(
-    image: &'a [u8],
-    status: &'a [u8],
-    outcome: &'a [u8],
-    failure: &'a [u8],
-    vartags: &'a [u8],
-    varbits: &'a [u64],
-    looktags: &'a [u8],
-    lookbits: &'a [u64],
-    e: u16,
-) -> Worked
-    ensures { result ≡ value_of image.now (seen_of status.now outcome.now failure.now vartags.now varbits.now looktags.now lookbits.now) e }
+pub fn value_of(image: &[u8], seen: &Seen, e: u16) -> Worked
+    ensures { result ≡ value_of image.now (seen_in seen.now) e }
 {
     let base = image::exprs_at(image);
     let mut ops = [0u8; 12];
@@ -76,9 +54,7 @@ pub fn value_of<'a>(
                 continue;
             }
             if op < 6 {
-                v = leaf(
-                    image, at, op, status, outcome, failure, vartags, varbits, looktags, lookbits,
-                );
+                v = leaf(image, at, op, seen);
                 down = false;
                 continue;
             }

@@ -4,21 +4,7 @@ ghost use Rattle.plexil.specs.Lists.{when◌then◌else◌};
 ghost use Rattle.plexil.specs.Values.{known, decode};
 ghost use Rattle.plexil.specs.declared.Worked.TheVariants as w;
 
-use plexil::Worked;
-
-fn code(codes: &[u8], k: u16) -> u8
-    ensures { result ≡ get_or codes.now k 0 }
-{
-    let at = k as usize;
-    if at < codes.len() { codes[at] } else { 0 }
-}
-
-fn word(words: &[u64], k: u16) -> u64
-    ensures { result ≡ get_or words.now k 0 }
-{
-    let at = k as usize;
-    if at < words.len() { words[at] } else { 0 }
-}
+use plexil::{Worked, get_or};
 
 // "b = 1 known, b = 0 Unknown with constant 0"
 pub fn constant(b: u16, kind: u8, bits: u64) -> Worked
@@ -35,12 +21,12 @@ pub fn constant(b: u16, kind: u8, bits: u64) -> Worked
 pub fn code_is(codes: &[u8], k: u16, b: u16) -> Worked
     ensures { result ≡ w.Bool (eqb (get_or codes.now k 0) b) }
 {
-    Worked::Bool(code(codes, k) as u16 == b)
+    Worked::Bool(get_or(codes, k, 0) as u16 == b)
 }
 
 // The value of a variable's or a lookup's cell.
-pub fn cell_value<'a>(tags: &'a [u8], bits: &'a [u64], k: u16) -> Worked
+pub fn cell_value(tags: &[u8], bits: &[u64], k: u16) -> Worked
     ensures { result ≡ decode (get_or tags.now k 0) (get_or bits.now k 0) }
 {
-    values::decode(code(tags, k), word(bits, k))
+    values::decode(get_or(tags, k, 0), get_or(bits, k, 0))
 }

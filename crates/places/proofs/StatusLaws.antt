@@ -1,4 +1,4 @@
--- Laws of statuses: a code past the six is Inactive's, every other status has its one code, and only the statuses of a state tell a parent's.
+-- Laws of statuses: every status but Inactive has its one code, and only the statuses of a state tell a parent's.
 use Prim.Native.Nat.{ℕ, zero, suc, ◌<◌}
 use native.Mathlib.Omega.{arith}
 use mathlib.Core.Path.{◌≡◌, refl, sym, ap, ◌∙◌}
@@ -13,17 +13,6 @@ use Rattle.plexil.specs.Image.{Image, parent}
 use Rattle.plexil.specs.Places.{status_of, status_code, same, status_at}
 use Rattle.plexil.specs.Atomic.{parent_status}
 use Rattle.plexil.proofs.ListLaws.{stands}
-
-pub other-code : (n : ℕ) → (n ≡ 1 → ⊥) → (n ≡ 2 → ⊥) → (n ≡ 3 → ⊥) → (n ≡ 4 → ⊥) → (n ≡ 5 → ⊥) → (n ≡ 6 → ⊥) → Inactive ≡ status_of n
-unfolding status_of
-other-code zero a b c d e f = refl
-other-code (suc zero) a b c d e f = absurd (a refl)
-other-code (suc (suc zero)) a b c d e f = absurd (b refl)
-other-code (suc (suc (suc zero))) a b c d e f = absurd (c refl)
-other-code (suc (suc (suc (suc zero)))) a b c d e f = absurd (d refl)
-other-code (suc (suc (suc (suc (suc zero))))) a b c d e f = absurd (e refl)
-other-code (suc (suc (suc (suc (suc (suc zero)))))) a b c d e f = absurd (f refl)
-other-code (suc (suc (suc (suc (suc (suc (suc n))))))) a b c d e f = refl
 
 pub status-in : (st : List ℕ) (i : ℕ) {x : ℕ} {a : Status} → x ≡ get_or st i 0 → a ≡ status_of x → (s : State) → s.status ≡ st → a ≡ status_at s i
 unfolding status_at

@@ -13,13 +13,10 @@ pub fn fresh_state(image: &[u8]) -> State
 {
     let mut vartags = [0u8; 128];
     let mut varbits = [0u64; 128];
-    let n = image::var_count(image);
-    let mut v: u16 = 0;
-    while v < n {
+    for v in 0..image::var_count(image) {
         let c = initial(image, v);
         vartags[v as usize] = c.tag;
         varbits[v as usize] = c.bits;
-        v += 1;
     }
     let mut status = [0u8; 256];
     status[0] = 1;

@@ -1,7 +1,7 @@
 -- Promise 7: one reply for each call, refusals that change nothing, and the course of a run and of a turn by its reply.
 use Prim.Native.Nat.{ℕ, ◌+◌, ◌≤◌}
 use mathlib.Core.Path.{◌≡◌, refl, sym, ap, ◌∙◌}
-use mathlib.Core.Logic.{◌⊎◌, ⊎_elim, ◌≢◌, ◌↔◌}
+use mathlib.Core.Logic.{⊎_elim, ◌≢◌, ◌↔◌}
 use mathlib.Core.Bool.{true}
 use mathlib.Core.List.{List}
 use native.Mathlib.Omega.{arith}
@@ -11,14 +11,13 @@ use Rattle.plexil.specs.declared.Card.{Card}
 use Rattle.plexil.specs.declared.Verdict.{Verdict}
 use Rattle.plexil.specs.declared.Verdict.TheVariants.{Admitted, Refused}
 use Rattle.plexil.specs.declared.RunAnswer.{RunAnswer}
-use Rattle.plexil.specs.declared.RunAnswer.TheVariants as ran
 use Rattle.plexil.specs.declared.Ran.{Ran}
 use Rattle.plexil.specs.Lists.{put}
 use Rattle.plexil.specs.Image.{Image}
 use Rattle.plexil.specs.Check.{verdict}
 use Rattle.plexil.specs.Micro.{quiet}
 use Rattle.plexil.specs.Places.{Quiet}
-use Rattle.plexil.specs.Quiescence.{at_quiet, spent, no_room, Run, run}
+use Rattle.plexil.specs.Quiescence.{Run, run}
 use Rattle.plexil.specs.Macro.{entry_count, entered, card_after}
 use Rattle.plexil.specs.Replies.{by_refusal, by_done, by_spent, numbered, unrefused, verdict_number, run_number, end_answer, phase_after, started_by, fresh_reply, RunReply, not_run, has_run, has_turned}
 use Rattle.plexil.specs.ReplyPromises.{iterate, words_of, OneCheck, OneFresh, OneRun, OneTurn, OneSaid, OneOfAny, FreshRefusalKeeps, RunRefusalKeeps, TurnRefusalKeeps, Unrun, Ended, Course, HasRun, RunCourse, TurnCourse, StaysOutside, QuietExactly, WordsStay, LengthStays}

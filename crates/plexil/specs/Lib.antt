@@ -4,6 +4,7 @@ pub mod Bytes
 pub mod Values
 pub mod Image
 pub mod Places
+pub mod Lent
 pub mod Expressions
 pub mod Kinds
 pub mod Records

@@ -1,8 +1,11 @@
-// The types that the code and the definitions of document 01 share: what they mean is in specs/. Of functions only lists.rt's searches and get_or.
+// The types that the code and the definitions of document 01 share; what they mean is in specs/. Functions are those that the types or the definitions' lists have.
 #![tactic(auto)]
 
+mod codes;
+mod lent;
 mod lists;
 
+pub use lent::{Before, Seen};
 pub use lists::{all_below, any_below, first, get_or};
 
 // A worked-out expression: a known value carries its kind. Clash: a value of another kind was met.
@@ -66,7 +69,7 @@ pub struct Counts {
 }
 
 // The status of a node, in the order of its codes.
-#[derive(Clone, Copy)]
+#[derive(Clone, Copy, PartialEq, Eq)]
 pub enum Status {
     Inactive,
     Waiting,

@@ -5,4 +5,4 @@ use Rattle.plexil.specs.Values.{says}
 use Rattle.evaluate.proofs.conditions.fails.Goals as goal
 
 pub returns : goal.returns
-returns c = c.says.ensures ∙ ap (says false) c.condition-v.ensures
+returns c = c.says.ensures ∙ ap (says false) c.condition.ensures

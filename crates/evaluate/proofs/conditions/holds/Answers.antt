@@ -5,4 +5,4 @@ use Rattle.plexil.specs.Values.{says}
 use Rattle.evaluate.proofs.conditions.holds.Goals as goal
 
 pub returns : goal.returns
-returns c = c.says.ensures ∙ ap (says true) c.condition-v.ensures
+returns c = c.says.ensures ∙ ap (says true) c.condition.ensures

@@ -3,4 +3,4 @@
 use Rattle.evaluate.proofs.leaves.cell_value.Goals as goal
 
 pub returns : goal.returns
-returns c = rw (← c.code.ensures, ← c.word.ensures) c.decode.ensures
+returns c = rw (← c.get_or.ensures, ← c.get_or-2.ensures) c.decode.ensures

@@ -2,4 +2,4 @@
 use Rattle.evaluate.proofs.leaves.code_is.Goals as goal
 
 pub returns : goal.returns
-returns c = rw (← c.code.ensures)
+returns c = rw (← c.get_or.ensures)

@@ -1,4 +1,4 @@
--- After v variables the first v cells are made; what is left of the variables falls.
+-- After v variables the first v cells are made.
 use Prim.Native.Nat.{ℕ}
 use native.Mathlib.Omega.{arith}
 use mathlib.Core.Path.{sym, ap}
@@ -9,16 +9,14 @@ use Rattle.places.proofs.FreshLaws.{all_made}
 use Rattle.places.proofs.fresh.fresh_state.Goals as goal
 
 pub loop-v-init : goal.loop-v-init
-loop-v-init c = (omega arith, c.var_count-n.ensures, omega arith, sym (renew-none _ _), sym (renew-none _ _))
+loop-v-init c = (c.var_count-v-end.ensures, sym (renew-none _ _), sym (renew-none _ _))
 
 pub loop-v-preserved : goal.loop-v-preserved
 loop-v-preserved c = (
-  omega arith,
-  c.loop-v.invariant.1,
-  c.loop-v.invariant.2,
-  stored _ _ _ _ c.loop-v.invariant.3 (omega (arith, length-replicate {A = ℕ} 128 0)) (ap (λ (x : Cell). x.tag) c.initial-c.ensures),
-  stored _ _ _ _ c.loop-v.invariant.4 (omega (arith, length-replicate {A = ℕ} 128 0)) (ap (λ (x : Cell). x.bits) c.initial-c.ensures),
+  c.loop-v.invariant.0,
+  stored _ _ _ _ c.loop-v.invariant.1 (omega (arith, length-replicate {A = ℕ} 128 0)) (ap (λ (x : Cell). x.tag) c.initial-c.ensures),
+  stored _ _ _ _ c.loop-v.invariant.2 (omega (arith, length-replicate {A = ℕ} 128 0)) (ap (λ (x : Cell). x.bits) c.initial-c.ensures),
 )
 
 pub returns : goal.returns
-returns c = all_made _ (omega arith) c.loop-v.invariant.3 c.loop-v.invariant.4
+returns c = all_made _ (omega arith) c.loop-v.invariant.1 c.loop-v.invariant.2
