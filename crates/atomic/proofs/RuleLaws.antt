@@ -4,6 +4,8 @@ use mathlib.Core.Path.{◌≡◌, refl, sym, ap, ◌∙◌}
 use mathlib.Core.List.{List, [], ◌∷◌}
 use lib.ListN.{get_or}
 use Rattle.plexil.specs.declared.Condition.TheVariants.{Inv}
+use denote.Enum.Bare.{sameb}
+use Rattle.plexil.specs.contracts.Status as status
 use Rattle.plexil.specs.declared.Status.{Status}
 use Rattle.plexil.specs.declared.Status.TheVariants.{Inactive}
 use Rattle.plexil.specs.declared.Place.{Place}
@@ -12,6 +14,7 @@ use Rattle.plexil.specs.declared.Effect.TheVariants.{Cleared}
 use Rattle.plexil.specs.Lists.{when◌then◌else◌, every}
 use Rattle.plexil.specs.Places.{Seen, same, status_at, mark_at}
 use Rattle.plexil.proofs.ListLaws.{if-true, if-false, stands}
+use Rattle.plexil.proofs.Statuses.{equal_same}
 use Rattle.plexil.proofs.TestLaws.{eq_yes, eq_no}
 use mathlib.Core.Bool.{Bool, true, false, not}
 use lib.Dec.{eqb}
@@ -34,6 +37,10 @@ fails-is p s i c d e h = ap (says false) (condition-or p s i c ∙ ap (condition
 pub inv-default : (p : Image) (s : Seen) (i : ℕ) → true ≡ default_of p s i Inv
 unfolding default_of
 inv-default p s i = refl
+
+-- ---- `==` of two statuses in code
+pub equals : (a b : Status) {r x : Bool} → r ≡ sameb status.the_type a b → r ≡ x → same a b ≡ x
+equals a b e h = sym (equal_same a b) ∙ (sym e ∙ h)
 
 -- ---- a mark as an array tells it
 pub mark-is : (s : State) (i : ℕ) {mk : List ℕ} {m : ℕ} → s.mark ≡ mk → m ≡ get_or mk i 0 → m ≡ mark_at s i

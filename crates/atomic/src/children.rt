@@ -15,18 +15,15 @@ pub fn test_children(image: &[u8], st: &[u8]) -> ChildTests
 {
     let mut finished = [true; 256];
     let mut resting = [true; 256];
-    let n = image::node_count(image);
-    let mut j: u16 = 0;
-    while j < n {
+    for j in 0..image::node_count(image) {
         let q = image::parent(image, j) as usize;
         let a = status_at(st, j);
         let f = is_finished(a);
         let r = is_resting(a);
         if q < 256 {
-            finished[q] = finished[q] & f;
-            resting[q] = resting[q] & r;
+            finished[q] &= f;
+            resting[q] &= r;
         }
-        j += 1;
     }
     ChildTests { finished, resting }
 }

@@ -1,29 +1,25 @@
 // What a move makes of its node's place before the losers are settled, what it sends, and whether it writes.
-ghost use Rattle.std.specs.Prelude.{◌≡◌, not, List, ◌∷◌, [], ℕ};
+ghost use Rattle.std.specs.Prelude.{◌≡◌, not, ◌∷◌, []};
 ghost use Rattle.plexil.specs.declared.State.{State};
 ghost use Rattle.plexil.specs.declared.Effect.{Effect};
 ghost use Rattle.plexil.specs.declared.Effect.TheVariants as effect;
 ghost use Rattle.plexil.specs.declared.Move.TheVariants as move;
 ghost use Rattle.plexil.specs.Lists.{every};
-ghost use Rattle.plexil.specs.Places.{state_of};
+ghost use Rattle.plexil.specs.Lent.{state_in};
 ghost use Rattle.plexil.specs.Records.{is_writer};
 ghost use Rattle.plexil.specs.Micro.{is_judged, judges, mark_by, ending_by, place_by, sent_by, stays};
 ghost use Rattle.atomic.specs.Ending.{ending_of};
 
-use places::{at, same, status_code};
-use plexil::{Condition, Effect, Move, Place, Status};
+use plexil::{Before, Condition, Effect, Move, Place, Status, get_or};
 
 // "The mark clears on leaving for IterationEnded"; "Executing (a command issues its word, mark clear)"
-fn mark_by(mk: &[u8], i: u16, a: Status) -> u8
-    ensures { (s : State) → s.mark ≡ mk.now → result ≡ mark_by s i a }
+fn mark_by(before: &Before, i: u16, a: Status) -> u8
+    ensures { result ≡ mark_by (state_in before.now) i a }
 {
-    if same(a, Status::IterationEnded) {
-        return 0;
+    match a {
+        Status::IterationEnded | Status::Executing => 0,
+        _ => get_or(before.mark, i, 0),
     }
-    if same(a, Status::Executing) {
-        return 0;
-    }
-    at(mk, i)
 }
 
 // A node's outcome and failure.
@@ -55,8 +51,8 @@ fn ending_by(image: &[u8], before: &Before, i: u16, e: Effect) -> Ending
 {
     match e {
         Effect::Kept => Ending {
-            outcome: at(oc, i),
-            failure: at(fl, i),
+            outcome: get_or(before.seen.outcome, i, 0),
+            failure: get_or(before.seen.failure, i, 0),
         },
         Effect::Cleared => Ending {
             outcome: 0,
@@ -64,7 +60,7 @@ fn ending_by(image: &[u8], before: &Before, i: u16, e: Effect) -> Ending
         },
         Effect::Skipped => Ending {
             outcome: 3,
-            failure: at(fl, i),
+            failure: get_or(before.seen.failure, i, 0),
         },
         Effect::Failed(o, f) => Ending {
             outcome: o,
@@ -80,10 +76,10 @@ fn gone(image: &[u8], before: &Before, i: u16, a: Status, e: Effect) -> Place
 {
     let r = ending_by(image, before, i, e);
     Place {
-        status: status_code(a),
+        status: u8::from(a),
         outcome: r.outcome,
         failure: r.failure,
-        mark: mark_by(mk, i, a),
+        mark: mark_by(before, i, a),
     }
 }
 
@@ -93,10 +89,10 @@ pub fn place_by(image: &[u8], before: &Before, i: u16, m: Move) -> Place
 {
     match m {
         Move::Stay => Place {
-            status: at(st, i),
-            outcome: at(oc, i),
-            failure: at(fl, i),
-            mark: at(mk, i),
+            status: get_or(before.seen.status, i, 0),
+            outcome: get_or(before.seen.outcome, i, 0),
+            failure: get_or(before.seen.failure, i, 0),
+            mark: get_or(before.mark, i, 0),
         },
         Move::Go(a, e) => gone(image, before, i, a, e),
     }
@@ -106,19 +102,14 @@ pub fn place_by(image: &[u8], before: &Before, i: u16, m: Move) -> Place
 fn sent_on(image: &[u8], mk: &[u8], i: u16, a: Status) -> u8
     ensures { (s : State) (e : Effect) → s.mark ≡ mk.now → result ≡ sent_by image.now s i (move.Go a e) }
 {
-    if image::node_type(image, i) == 1 {
-        if same(a, Status::Executing) {
-            return 1;
-        }
-        if same(a, Status::Failing) {
-            if at(mk, i) == 0 {
-                return 2;
-            }
-            return 0;
-        }
+    if image::node_type(image, i) != 1 {
         return 0;
     }
-    0
+    match a {
+        Status::Executing => 1,
+        Status::Failing => if get_or(mk, i, 0) == 0 { 2 } else { 0 },
+        _ => 0,
+    }
 }
 
 // 0 nothing, 1 the command's word, 2 an abort.
@@ -131,6 +122,7 @@ pub fn sent_by(image: &[u8], mk: &[u8], i: u16, m: Move) -> u8
     }
 }
 
+#[tactic(auto, unfolding(plexil::specs::Micro::is_judged))]
 fn is_judged(e: Effect) -> bool
     ensures { result ≡ is_judged e }
 {
@@ -143,6 +135,7 @@ fn is_judged(e: Effect) -> bool
     }
 }
 
+#[tactic(auto, unfolding(plexil::specs::Micro::judges))]
 fn judges(m: Move) -> bool
     ensures { result ≡ judges m }
 {
@@ -156,18 +149,12 @@ fn judges(m: Move) -> bool
 pub fn writes(image: &[u8], i: u16, m: Move) -> bool
     ensures { result ≡ every (is_writer image.now i ∷ judges m ∷ []) }
 {
-    if image::node_type(image, i) == 2 {
-        return judges(m);
-    }
-    false
+    image::node_type(image, i) == 2 && judges(m)
 }
 
 // Whether a rule applied.
 pub fn applies(m: Move) -> bool
     ensures { result ≡ not (stays m) }
 {
-    match m {
-        Move::Stay => false,
-        Move::Go(_, _) => true,
-    }
+    !matches!(m, Move::Stay)
 }

@@ -1,15 +1,15 @@
-// "Node rules": one function a status. The arrays of the state before the step are lent one by one, in State's order.
+// "Node rules": one function a status. What a rule reads is lent.
 ghost use Rattle.std.specs.Prelude.{◌≡◌, not, ◌∷◌, []};
-ghost use Rattle.plexil.specs.declared.State.{State};
 ghost use Rattle.plexil.specs.declared.Status.TheVariants as status;
 ghost use Rattle.plexil.specs.declared.Condition.TheVariants as condition;
 ghost use Rattle.plexil.specs.Lists.{every};
-ghost use Rattle.plexil.specs.Places.{Seen, seen_of, state_of, same};
+ghost use Rattle.plexil.specs.Lent.{seen_in, state_in};
+ghost use Rattle.plexil.specs.Places.{same};
 ghost use Rattle.plexil.specs.Atomic.{children_by, children, is_finished, is_resting, is_off, from_waiting, fails_by, at_end, settled, from_ended, default_of, by_status, move_of};
 
 use super::statuses::{is_closing, is_off};
-use places::{at, parent_status, same, status_at};
-use plexil::{Condition, Effect, Move, Status};
+use places::{parent_status, status_at};
+use plexil::{Before, Condition, Effect, Move, Seen, Status, get_or};
 
 // "Skip True, then Finished, Skipped. Else Start True: Pre True, then Executing ..; otherwise IterationEnded, Failure, Pre"
 fn from_waiting(image: &[u8], seen: &Seen, i: u16) -> Move
@@ -38,30 +38,26 @@ fn fails_by(image: &[u8], i: u16, outcome: u8, failure: u8) -> Move
 }
 
 // "a list goes to Finishing; a returned command goes to IterationEnded; an assignment writes and goes to IterationEnded"
-fn at_end(image: &[u8], mk: &[u8], i: u16) -> Move
-    ensures { (s : State) → s.mark ≡ mk.now → result ≡ at_end image.now s i }
+fn at_end(image: &[u8], before: &Before, i: u16) -> Move
+    ensures { result ≡ at_end image.now (state_in before.now) i }
 {
-    let kind = image::node_type(image, i);
-    if kind == 0 {
-        return Move::Go(Status::Finishing, Effect::Kept);
+    match image::node_type(image, i) {
+        0 => Move::Go(Status::Finishing, Effect::Kept),
+        1 => if get_or(before.mark, i, 0) == 0 {
+            Move::Stay
+        } else {
+            Move::Go(Status::IterationEnded, Effect::Judged)
+        },
+        _ => Move::Go(Status::IterationEnded, Effect::Judged),
     }
-    if kind == 1 {
-        if at(mk, i) == 0 {
-            return Move::Stay;
-        }
-        return Move::Go(Status::IterationEnded, Effect::Judged);
-    }
-    Move::Go(Status::IterationEnded, Effect::Judged)
 }
 
 // "End True, but for a list all children Finished"
-fn end_default(image: &[u8], i: u16, finished: bool) -> bool
-    ensures { (s : Seen) → finished ≡ children_by image.now s.status i is_finished → result ≡ default_of image.now s i condition.End }
+fn end_default(image: &[u8], seen: &Seen, i: u16, finished: bool) -> bool
+    requires { finished ≡ children_by image.now seen.now.status.now i is_finished }
+    ensures { result ≡ default_of image.now (seen_in seen.now) i condition.End }
 {
-    if image::node_type(image, i) == 0 {
-        return finished;
-    }
-    true
+    image::node_type(image, i) != 0 || finished
 }
 
 // "parent Failing gives failure Parent; else Inv False gives Invariant"; else End True
@@ -69,7 +65,7 @@ fn from_executing(image: &[u8], before: &Before, i: u16, u: Status, finished: bo
     requires { finished ≡ children image.now (state_in before.now) i is_finished }
     ensures { result ≡ by_status status.Executing u image.now (state_in before.now) i }
 {
-    if same(u, Status::Failing) {
+    if u == Status::Failing {
         return fails_by(image, i, 2, 4);
     }
     if evaluate::fails(image, &before.seen, i, Condition::Inv, true) {
@@ -80,9 +76,9 @@ fn from_executing(image: &[u8], before: &Before, i: u16, u: Status, finished: bo
         &before.seen,
         i,
         Condition::End,
-        end_default(image, i, finished),
+        end_default(image, &before.seen, i, finished),
     ) {
-        return at_end(image, mk, i);
+        return at_end(image, before, i);
     }
     Move::Stay
 }
@@ -92,7 +88,7 @@ fn from_finishing(image: &[u8], before: &Before, i: u16, u: Status, resting: boo
     requires { resting ≡ children image.now (state_in before.now) i is_resting }
     ensures { result ≡ by_status status.Finishing u image.now (state_in before.now) i }
 {
-    if same(u, Status::Failing) {
+    if u == Status::Failing {
         return fails_by(image, i, 2, 4);
     }
     if evaluate::fails(image, &before.seen, i, Condition::Inv, true) {
@@ -105,17 +101,15 @@ fn from_finishing(image: &[u8], before: &Before, i: u16, u: Status, resting: boo
 }
 
 // "list with all children Waiting or Finished, or command returned: IterationEnded, outcome kept"
-fn is_settled(image: &[u8], mk: &[u8], i: u16, resting: bool) -> bool
-    ensures { (s : State) → s.mark ≡ mk.now → resting ≡ children image.now s i is_resting → result ≡ settled image.now s i }
+fn is_settled(image: &[u8], before: &Before, i: u16, resting: bool) -> bool
+    requires { resting ≡ children image.now (state_in before.now) i is_resting }
+    ensures { result ≡ settled image.now (state_in before.now) i }
 {
-    let kind = image::node_type(image, i);
-    if kind == 0 {
-        return resting;
+    match image::node_type(image, i) {
+        0 => resting,
+        1 => get_or(before.mark, i, 0) != 0,
+        _ => false,
     }
-    if kind == 1 {
-        return at(mk, i) != 0;
-    }
-    false
 }
 
 // "parent Finishing or Failing: Finished. Parent Executing: Repeat True gives Waiting, outcome and failure cleared; else Finished"
@@ -125,7 +119,7 @@ fn from_ended(image: &[u8], seen: &Seen, i: u16, u: Status) -> Move
     if is_closing(u) {
         return Move::Go(Status::Finished, Effect::Kept);
     }
-    if same(u, Status::Executing) {
+    if u == Status::Executing {
         if evaluate::holds(image, seen, i, Condition::Repeat, false) {
             return Move::Go(Status::Waiting, Effect::Cleared);
         }
@@ -150,14 +144,14 @@ fn by_status(
 {
     match own {
         Status::Inactive => {
-            if same(u, Status::Executing) {
+            if u == Status::Executing {
                 Move::Go(Status::Waiting, Effect::Kept)
             } else {
                 Move::Stay
             }
         }
         Status::Waiting => {
-            if same(u, Status::Executing) {
+            if u == Status::Executing {
                 from_waiting(image, &before.seen, i)
             } else {
                 Move::Stay
@@ -166,7 +160,7 @@ fn by_status(
         Status::Executing => from_executing(image, before, i, u, finished),
         Status::Finishing => from_finishing(image, before, i, u, resting),
         Status::Failing => {
-            if is_settled(image, mk, i, resting) {
+            if is_settled(image, before, i, resting) {
                 Move::Go(Status::IterationEnded, Effect::Kept)
             } else {
                 Move::Stay
@@ -181,7 +175,7 @@ fn by_status(
 fn is_cut_off(own: Status, u: Status) -> bool
     ensures { result ≡ every (not (same own status.Inactive) ∷ is_off u ∷ []) }
 {
-    if same(own, Status::Inactive) {
+    if own == Status::Inactive {
         return false;
     }
     is_off(u)
@@ -193,8 +187,8 @@ pub fn move_of(image: &[u8], before: &Before, i: u16, finished: bool, resting: b
     requires resting_value { resting ≡ children image.now (state_in before.now) i is_resting }
     ensures { result ≡ move_of image.now (state_in before.now) i }
 {
-    let own = status_at(st, i);
-    let u = parent_status(image, st, i);
+    let own = status_at(before.seen.status, i);
+    let u = parent_status(image, before.seen.status, i);
     if is_cut_off(own, u) {
         return Move::Go(Status::Inactive, Effect::Cleared);
     }

@@ -1,13 +1,9 @@
--- After j nodes each row of flags has the answer of the nodes below j; what is left of the nodes falls.
+-- After j nodes each row of flags has the answer of the nodes below j.
 use mathlib.Core.Path.{◌≡◌}
-use Prim.Native.Nat.{◌≤◌, ◌-◌}
 use Rattle.plexil.specs.Image.{node_count}
 use Rattle.plexil.specs.Atomic.{is_finished, is_resting}
 use Rattle.atomic.proofs.ChildLaws.{Row}
 use Rattle.atomic.proofs.children.test_children.Given as goal
 
 abbrev pub invariant-loop-j : goal.invariant-loop-j
-invariant-loop-j l = (l.j ≤ l.n) × (l.n ≡ node_count l.image) × Row l.image l.st is_finished l.j l.finished × Row l.image l.st is_resting l.j l.resting
-
-abbrev pub decreases-loop-j : goal.decreases-loop-j
-decreases-loop-j l = l.n - l.j
+invariant-loop-j l = (l.j-end ≡ node_count l.image) × Row l.image l.st is_finished l.j l.finished × Row l.image l.st is_resting l.j l.resting

@@ -1,12 +1,8 @@
 -- Stay is where no rule applies.
 use Rattle.plexil.specs.Micro.{stays}
-use borrow.Author.Rules.{rules}
 use Rattle.atomic.proofs.moved.applies.Goals as goal
+use Rattle.atomic.proofs.moved.applies.Goals.{in-Stay, in_default}
 
-pub returns-in-Stay : goal.returns-in-Stay
+pub returns : goal.returns
 unfolding stays
-returns-in-Stay c = search rules
-
-pub returns-in-Go : goal.returns-in-Go
-unfolding stays
-returns-in-Go c = search rules
+returns c = elim c.match-matches.branch [ in-Stay w ↦ rw (w.matches-is, w.in-Stay.is) | in_default w ↦ rw (w.matches-is, w.in_default.is) ]

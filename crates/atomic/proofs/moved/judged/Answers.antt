@@ -9,8 +9,8 @@ use Rattle.atomic.proofs.moved.judged.Goals as goal
 
 pub returns-then-holds : goal.returns-then-holds
 unfolding ending_by post_holds read_by_post default_of when◌then◌else◌
-returns-then-holds c mark = rw (holds-is _ _ _ Post _ refl c.holds.ensures ∙ c.if-holds.true)
+returns-then-holds c = rw (holds-is _ _ _ Post _ refl c.holds.ensures ∙ c.if-holds.true)
 
 pub returns : goal.returns
 unfolding ending_by post_holds read_by_post default_of when◌then◌else◌
-returns c mark = rw (holds-is _ _ _ Post _ refl c.holds.ensures ∙ c.if-holds.false)
+returns c = rw (holds-is _ _ _ Post _ refl c.holds.ensures ∙ c.if-holds.false)

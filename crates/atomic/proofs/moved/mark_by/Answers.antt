@@ -1,18 +1,15 @@
 -- Cleared on going to IterationEnded or Executing.
-use mathlib.Core.Path.{sym, ◌∙◌}
 use Rattle.plexil.specs.Micro.{mark_by}
-use Rattle.plexil.proofs.ListLaws.{if-true, if-false, some-stop, some-cons, some_one}
-use Rattle.atomic.proofs.RuleLaws.{mark-is}
+use Rattle.plexil.proofs.ListLaws.{if-true, if-false}
+use Rattle.plexil.proofs.Statuses.{either, neither}
+use mathlib.Core.Path.{sym, ◌∙◌}
+use Rattle.plexil.specs.Places.{mark_at}
 use Rattle.atomic.proofs.moved.mark_by.Goals as goal
 
-pub returns-then-same : goal.returns-then-same
+pub returns-in-IterationEnded : goal.returns-in-IterationEnded
 unfolding mark_by
-returns-then-same c = λ s e. sym (if-true _ _ _ (some-stop _ _ (sym c.same.ensures ∙ c.if-same.true)))
+returns-in-IterationEnded c = sym (if-true _ _ _ (sym (either _ _ _ c.in-IterationEnded.is)))
 
-pub returns-then-same-2 : goal.returns-then-same-2
-unfolding mark_by
-returns-then-same-2 c = λ s e. sym (if-true _ _ _ (some-cons _ _ (sym c.same.ensures ∙ c.if-same.false) ∙ (some_one _ ∙ (sym c.same-2.ensures ∙ c.if-same-2.true))))
-
-pub returns : goal.returns
-unfolding mark_by
-returns c = λ s e. mark-is s _ e c.at.ensures ∙ sym (if-false _ _ _ (some-cons _ _ (sym c.same.ensures ∙ c.if-same.false) ∙ (some_one _ ∙ (sym c.same-2.ensures ∙ c.if-same-2.false))))
+pub returns-in_default : goal.returns-in_default
+unfolding mark_by mark_at
+returns-in_default c = c.get_or.ensures ∙ sym (if-false _ _ _ (sym (neither _ _ _ c.in_default.not-IterationEnded c.in_default.not-Executing)))

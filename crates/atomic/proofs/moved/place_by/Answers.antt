@@ -5,7 +5,7 @@ use Rattle.atomic.proofs.moved.place_by.Goals as goal
 
 pub returns-in-Stay : goal.returns-in-Stay
 unfolding place_by outcome_at failure_at mark_at
-returns-in-Stay c = rw c.in-Stay.is (λ t. record { status = c.at.ensures t; outcome = c.at-in-Stay.ensures t; failure = c.at-in-Stay-2.ensures t; mark = c.at-in-Stay-3.ensures t })
+returns-in-Stay c = rw c.in-Stay.is (λ t. record { status = c.get_or.ensures t; outcome = c.get_or-in-Stay.ensures t; failure = c.get_or-in-Stay-2.ensures t; mark = c.get_or-in-Stay-3.ensures t })
 
 pub returns-in-Go : goal.returns-in-Go
 returns-in-Go c = rw c.in-Go.is c.gone.ensures

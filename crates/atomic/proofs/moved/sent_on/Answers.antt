@@ -1,28 +1,37 @@
 -- By the node's type, the status it goes to, and its mark.
-use mathlib.Core.Path.{refl, sym, ◌∙◌}
+use mathlib.Core.Path.{refl}
 use Rattle.plexil.specs.Lists.{when◌then◌else◌, every}
 use Rattle.plexil.specs.Records.{is_command}
+use mathlib.Core.Path.{◌≡◌}
+use mathlib.Core.Bool.{false}
+use Rattle.plexil.specs.Places.{same, status_code}
 use Rattle.plexil.specs.Micro.{sent_by}
 use Rattle.plexil.proofs.TestLaws.{eq_yes, eq_no}
+use Rattle.plexil.proofs.Statuses.{apart, itself}
+use Rattle.plexil.specs.declared.Status.TheVariants.{Executing, Failing}
 use Rattle.atomic.proofs.RuleLaws.{marked, unmarked}
 use Rattle.atomic.proofs.moved.sent_on.Goals as goal
 
-pub returns-then-same : goal.returns-then-same
-unfolding sent_by every when◌then◌else◌ is_command
-returns-then-same c = λ s e h. rw (eq_yes c.node_type.ensures refl c.if-node_type-eq1.true, sym c.same.ensures ∙ c.if-same.true)
+failing-not-executing : same Failing Executing ≡ false
+unfolding same status_code
+failing-not-executing = refl
 
-pub returns-then-at-eq0 : goal.returns-then-at-eq0
+pub returns-then-node_type-ne1 : goal.returns-then-node_type-ne1
 unfolding sent_by every when◌then◌else◌ is_command
-returns-then-at-eq0 c = λ s e h. rw (eq_yes c.node_type.ensures refl c.if-node_type-eq1.true, sym c.same.ensures ∙ c.if-same.false, sym c.same-then-node_type-eq1.ensures ∙ c.if-same-2.true, unmarked s _ h c.at.ensures c.if-at-eq0.true)
+returns-then-node_type-ne1 c = λ s e h. rw (eq_no c.node_type.ensures refl c.if-node_type-ne1.true)
 
-pub returns-then-same-2 : goal.returns-then-same-2
+pub returns-in-Executing : goal.returns-in-Executing
 unfolding sent_by every when◌then◌else◌ is_command
-returns-then-same-2 c = λ s e h. rw (eq_yes c.node_type.ensures refl c.if-node_type-eq1.true, sym c.same.ensures ∙ c.if-same.false, sym c.same-then-node_type-eq1.ensures ∙ c.if-same-2.true, marked s _ h c.at.ensures c.if-at-eq0.false)
+returns-in-Executing c = λ s e h. rw (eq_yes c.node_type.ensures refl c.if-node_type-ne1.false, c.in-Executing.is, itself Executing)
 
-pub returns-then-node_type-eq1 : goal.returns-then-node_type-eq1
+pub returns-then-get_or-eq0 : goal.returns-then-get_or-eq0
 unfolding sent_by every when◌then◌else◌ is_command
-returns-then-node_type-eq1 c = λ s e h. rw (eq_yes c.node_type.ensures refl c.if-node_type-eq1.true, sym c.same.ensures ∙ c.if-same.false, sym c.same-then-node_type-eq1.ensures ∙ c.if-same-2.false)
+returns-then-get_or-eq0 c = λ s e h. rw (eq_yes c.node_type.ensures refl c.if-node_type-ne1.false, c.in-Failing.is, failing-not-executing, itself Failing, unmarked s _ h c.get_or.ensures c.if-get_or-eq0.true)
 
-pub returns : goal.returns
+pub returns-else-get_or-eq0 : goal.returns-else-get_or-eq0
 unfolding sent_by every when◌then◌else◌ is_command
-returns c = λ s e h. rw (eq_no c.node_type.ensures refl c.if-node_type-eq1.false)
+returns-else-get_or-eq0 c = λ s e h. rw (eq_yes c.node_type.ensures refl c.if-node_type-ne1.false, c.in-Failing.is, failing-not-executing, itself Failing, marked s _ h c.get_or.ensures c.if-get_or-eq0.false)
+
+pub returns-in_default : goal.returns-in_default
+unfolding sent_by every when◌then◌else◌ is_command
+returns-in_default c = λ s e h. rw (eq_yes c.node_type.ensures refl c.if-node_type-ne1.false, apart _ _ c.in_default.not-Executing, apart _ _ c.in_default.not-Failing)

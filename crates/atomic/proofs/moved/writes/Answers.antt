@@ -9,6 +9,6 @@ pub returns-then-node_type-eq2 : goal.returns-then-node_type-eq2
 unfolding is_writer is_assignment
 returns-then-node_type-eq2 c = c.judges.ensures ∙ sym (every-cons _ _ (eq_yes c.node_type.ensures refl c.if-node_type-eq2.true) ∙ every_one _)
 
-pub returns : goal.returns
+pub returns-else-node_type-eq2 : goal.returns-else-node_type-eq2
 unfolding is_writer is_assignment
-returns c = sym (every-stop _ _ (eq_no c.node_type.ensures refl c.if-node_type-eq2.false))
+returns-else-node_type-eq2 c = eq_no refl refl c.if-node_type-eq2.false ∙ sym (every-stop _ _ (eq_no c.node_type.ensures refl c.if-node_type-eq2.false))

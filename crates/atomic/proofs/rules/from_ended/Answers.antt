@@ -3,7 +3,7 @@ use mathlib.Core.Path.{refl, sym, ◌∙◌}
 use Rattle.plexil.specs.declared.Condition.TheVariants.{Repeat}
 use Rattle.plexil.specs.Lists.{when◌then◌else◌}
 use Rattle.plexil.specs.Atomic.{default_of, from_ended}
-use Rattle.atomic.proofs.RuleLaws.{holds-is}
+use Rattle.atomic.proofs.RuleLaws.{equals, holds-is}
 use Rattle.atomic.proofs.rules.from_ended.Goals as goal
 
 pub returns-then-is_closing : goal.returns-then-is_closing
@@ -12,12 +12,12 @@ returns-then-is_closing c = rw (sym c.is_closing.ensures ∙ c.if-is_closing.tru
 
 pub returns-then-holds : goal.returns-then-holds
 unfolding from_ended when◌then◌else◌ default_of
-returns-then-holds c = rw (sym c.is_closing.ensures ∙ c.if-is_closing.false, sym c.same.ensures ∙ c.if-same.true, holds-is _ _ _ Repeat _ refl c.holds.ensures ∙ c.if-holds.true)
+returns-then-holds c = rw (sym c.is_closing.ensures ∙ c.if-is_closing.false, equals _ _ c.eq.ensures c.if-eq.true, holds-is _ _ _ Repeat _ refl c.holds.ensures ∙ c.if-holds.true)
 
-pub returns-then-same : goal.returns-then-same
+pub returns-then-eq : goal.returns-then-eq
 unfolding from_ended when◌then◌else◌ default_of
-returns-then-same c = rw (sym c.is_closing.ensures ∙ c.if-is_closing.false, sym c.same.ensures ∙ c.if-same.true, holds-is _ _ _ Repeat _ refl c.holds.ensures ∙ c.if-holds.false)
+returns-then-eq c = rw (sym c.is_closing.ensures ∙ c.if-is_closing.false, equals _ _ c.eq.ensures c.if-eq.true, holds-is _ _ _ Repeat _ refl c.holds.ensures ∙ c.if-holds.false)
 
 pub returns : goal.returns
 unfolding from_ended when◌then◌else◌
-returns c = rw (sym c.is_closing.ensures ∙ c.if-is_closing.false, sym c.same.ensures ∙ c.if-same.false)
+returns c = rw (sym c.is_closing.ensures ∙ c.if-is_closing.false, equals _ _ c.eq.ensures c.if-eq.false)

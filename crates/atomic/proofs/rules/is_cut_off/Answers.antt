@@ -2,10 +2,11 @@
 use mathlib.Core.Path.{sym, ap, ◌∙◌}
 use mathlib.Core.Bool.{not}
 use Rattle.plexil.proofs.ListLaws.{every-cons, every-stop, every_one}
+use Rattle.atomic.proofs.RuleLaws.{equals}
 use Rattle.atomic.proofs.rules.is_cut_off.Goals as goal
 
-pub returns-then-same : goal.returns-then-same
-returns-then-same c = sym (every-stop _ _ (ap not (sym c.same.ensures ∙ c.if-same.true)))
+pub returns-then-eq : goal.returns-then-eq
+returns-then-eq c = sym (every-stop _ _ (ap not (equals _ _ c.eq.ensures c.if-eq.true)))
 
 pub returns : goal.returns
-returns c = c.is_off.ensures ∙ sym (every-cons _ _ (ap not (sym c.same.ensures ∙ c.if-same.false)) ∙ every_one _)
+returns c = c.is_off.ensures ∙ sym (every-cons _ _ (ap not (equals _ _ c.eq.ensures c.if-eq.false)) ∙ every_one _)

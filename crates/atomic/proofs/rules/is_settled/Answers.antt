@@ -1,4 +1,6 @@
 -- By the node's type, and a command by its mark.
+use native.Mathlib.Omega.{arith}
+use Rattle.plexil.specs.Lent.{state_in}
 use mathlib.Core.Path.{refl, sym, ap, ◌∙◌}
 use mathlib.Core.Bool.{not}
 use lib.Dec.{eqb}
@@ -11,14 +13,14 @@ use Rattle.plexil.proofs.TestLaws.{eq_yes, eq_no}
 use Rattle.atomic.proofs.RuleLaws.{mark-is}
 use Rattle.atomic.proofs.rules.is_settled.Goals as goal
 
-pub returns-then-kind-eq0 : goal.returns-then-kind-eq0
+pub returns-in-0 : goal.returns-in-0
 unfolding settled is_list when◌then◌else◌
-returns-then-kind-eq0 c = λ s e h. rw (eq_yes c.node_type-kind.ensures refl c.if-kind-eq0.true) h
+returns-in-0 c = rw (eq_yes c.node_type.ensures refl c.in-0.is) c.requires
 
-pub returns-then-kind-eq1 : goal.returns-then-kind-eq1
+pub returns-in-1 : goal.returns-in-1
 unfolding settled is_list is_command when◌then◌else◌
-returns-then-kind-eq1 c = λ s e h. rw (eq_no c.node_type-kind.ensures refl c.if-kind-eq0.false) (ap (λ (m : ℕ). not (eqb m 0)) (mark-is s _ e c.at.ensures) ∙ sym (every-cons _ _ (eq_yes c.node_type-kind.ensures refl c.if-kind-eq1.true) ∙ every_one _))
+returns-in-1 c = rw (eq_no {y = 0} c.node_type.ensures refl (λ e. omega arith)) (ap (λ (m : ℕ). not (eqb m 0)) (mark-is (state_in c.args.before.now) _ refl c.get_or.ensures) ∙ sym (every-cons _ _ (eq_yes c.node_type.ensures refl c.in-1.is) ∙ every_one _))
 
-pub returns : goal.returns
+pub returns-in_default : goal.returns-in_default
 unfolding settled is_list is_command when◌then◌else◌
-returns c = λ s e h. rw (eq_no c.node_type-kind.ensures refl c.if-kind-eq0.false) (sym (every-stop _ _ (eq_no c.node_type-kind.ensures refl c.if-kind-eq1.false)))
+returns-in_default c = rw (eq_no {y = 0} c.node_type.ensures refl (λ e. omega arith)) (sym (every-stop _ _ (eq_no {y = 1} c.node_type.ensures refl (λ e. omega arith))))
