@@ -14,6 +14,7 @@ pub mod CheckPromises
 pub mod Atomic
 pub mod Micro
 pub mod Order
+pub mod Carried
 pub mod Quiescence
 pub mod Form
 pub mod Macro

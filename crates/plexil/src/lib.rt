@@ -1,10 +1,12 @@
 // The types that the code and the definitions of document 01 share; what they mean is in specs/. Functions are those that the types or the definitions' lists have.
 #![tactic(auto)]
 
+mod carry;
 mod codes;
 mod lent;
 mod lists;
 
+pub use carry::Carry;
 pub use lent::{Before, Seen};
 pub use lists::{all_below, any_below, first, get_or};
 

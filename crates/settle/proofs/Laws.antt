@@ -21,24 +21,11 @@ is-waiting : (n : ℕ) → same (status_of n) Waiting ≡ eqb n 1
 unfolding status_code
 is-waiting n = same_code n Waiting (omega arith)
 
--- ---- the tests over the lists of s and c
-pub leads-by : (p : Image) (c : Carry) (i v : ℕ) (node tied : List ℕ) → v ≡ what p i → c.node ≡ node → c.tied ≡ tied
-    → leads p c i ≡ every (eqb (get_or node v 0) i ∷ eqb (get_or tied v 0) 0 ∷ [])
-unfolding leads target
-leads-by p c i v node tied e h g = rw (h, g, ← e)
-
+-- ---- the test over the lists of s and c
 pub waiting-entered : (s : State) (c : Carry) (i : ℕ) (st st2 : List ℕ) → s.status ≡ st → c.status ≡ st2
     → entered_waiting s c i ≡ every (not (eqb (get_or st i 0) 1) ∷ eqb (get_or st2 i 0) 1 ∷ [])
 unfolding entered_waiting status_at
 waiting-entered s c i st st2 h g = rw (h, g, is-waiting (get_or st i 0), is-waiting (get_or st2 i 0))
-
-pub settled-by : (p : Image) (s : State) (c : Carry) (v : ℕ) (top tags bits tied : List ℕ)
-    → c.top ≡ top → c.tags ≡ tags → c.bits ≡ bits → c.tied ≡ tied
-    → settled_var p s c v
-    ≡ (when every (ltb 0 (get_or top v 0) ∷ eqb (get_or tied v 0) 0 ∷ []) then cell (get_or tags v 0) (get_or bits v 0)
-    else when entered_waiting s c (owner p v) then initial p v else var_cell s v)
-unfolding settled_var
-settled-by p s c v top tags bits tied h g k m = rw (h, g, k, m)
 
 -- ---- what a loser gets in a list, x, and what the others keep
 abbrev pub losers_get : Image → Carry → ℕ → List ℕ → ℕ → ℕ

@@ -2,8 +2,7 @@
 #![tactic(auto)]
 
 mod losers;
-mod reads;
+mod settled;
 mod variables;
 
-pub use losers::settle_places;
-pub use variables::settle_vars;
+pub use settled::settle;

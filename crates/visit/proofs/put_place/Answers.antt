@@ -5,4 +5,4 @@ use Rattle.visit.proofs.put_place.Goals as goal
 
 pub returns : goal.returns
 unfolding put_place
-returns c = λ top node tags bits tied. refl
+returns c = refl

@@ -22,13 +22,13 @@ meet_writer-requires c = target_below _ _ _ c.move_of-m.ensures c.requires.0 c.r
 pub returns-then-w : goal.returns-then-w
 returns-then-w c = (
   applied _ _ _ c.move_of-m.ensures c.applies.ensures,
-  visit-writes _ _ _ c.move_of-m.ensures c.place_by-r.ensures c.writes-w.ensures _ (c.put_place.ensures c.args.top.now c.args.node.now c.args.tags.now c.args.bits.now c.args.tied.now) c.if-w.true c.what.ensures (ap (λ (k : ℕ). k + 1) c.priority.ensures) (written_is _ _ _ c.value_field.ensures c.value_of.ensures c.encode-x.ensures) (c.meet_writer.ensures _ _ _ _ _),
+  visit-writes _ _ _ c.move_of-m.ensures c.place_by-r.ensures c.writes-w.ensures _ c.put_place.ensures c.if-w.true c.what.ensures (ap (λ (k : ℕ). k + 1) c.priority.ensures) (written_is _ _ _ c.value_field.ensures c.value_of-v.ensures c.encode.ensures) c.meet_writer.ensures,
   ap (set c.args.sent.now c.args.i) (sent_is _ _ _ c.move_of-m.ensures (c.sent_by.ensures _ refl)),
 )
 
 pub returns : goal.returns
 returns c = (
   applied _ _ _ c.move_of-m.ensures c.applies-2.ensures,
-  visit-passes _ _ _ c.move_of-m.ensures c.place_by-r.ensures c.writes-w.ensures _ (c.put_place.ensures c.args.top.now c.args.node.now c.args.tags.now c.args.bits.now c.args.tied.now) c.if-w.false,
+  visit-passes _ _ _ c.move_of-m.ensures c.place_by-r.ensures c.writes-w.ensures _ c.put_place.ensures c.if-w.false,
   ap (set c.args.sent.now c.args.i) (sent_is _ _ _ c.move_of-m.ensures (c.sent_by.ensures _ refl)),
 )

@@ -1,4 +1,4 @@
--- After i nodes what is carried is the walk's as far as i; what is left of the nodes falls.
+-- After i nodes what is carried is the walk's as far as i.
 use Rattle.visit.proofs.CarryLaws.{walk_end, all_below-or, walk-next}
 use native.Mathlib.Omega.{arith}
 use mathlib.Core.Path.{◌≡◌, refl, sym, ◌∙◌}
@@ -11,10 +11,7 @@ use Rattle.visit.proofs.walk.Goals as goal
 
 pub loop-i-init : goal.loop-i-init
 unfolding all_below
-loop-i-init c = (omega arith, refl, sym (walk_to-zero _ _ _), sym (renew-none _ _))
-
-pub overflow_cast-k : goal.overflow_cast-k
-overflow_cast-k c = omega arith
+loop-i-init c = (refl, sym (walk_to-zero _ _ _), sym (renew-none _ _))
 
 pub bounds-finished-k : goal.bounds-finished-k
 bounds-finished-k c = omega (arith, few-nodes _ c.requires.0, c.requires.2)
@@ -22,23 +19,16 @@ bounds-finished-k c = omega (arith, few-nodes _ c.requires.0, c.requires.2)
 pub bounds-resting-k : goal.bounds-resting-k
 bounds-resting-k c = omega (arith, few-nodes _ c.requires.0, c.requires.2)
 
-pub visit_node-a-requires : goal.visit_node-a-requires
-visit_node-a-requires c = (c.requires.0, c.requires.1, omega (arith, c.requires.2), c.requires.4 _ (omega (arith, few-nodes _ c.requires.0, c.requires.2)), c.requires.5 _ (omega (arith, few-nodes _ c.requires.0, c.requires.2)))
-
-pub overflow_add-i : goal.overflow_add-i
-overflow_add-i c = omega (arith, c.loop-i-test.true, few-nodes _ c.requires.0, c.requires.2)
-
-pub loop-i-smaller : goal.loop-i-smaller
-loop-i-smaller c = omega arith
+pub visit_node-moved-requires : goal.visit_node-moved-requires
+visit_node-moved-requires c = (c.requires.0, c.requires.1, omega (arith, c.requires.2), c.requires.4 _ (omega (arith, few-nodes _ c.requires.0, c.requires.2)), c.requires.5 _ (omega (arith, few-nodes _ c.requires.0, c.requires.2)))
 
 pub loop-i-preserved : goal.loop-i-preserved
 loop-i-preserved c = (
-  omega arith,
-  all_below-or _ _ _ _ c.loop-i.invariant.1 c.visit_node-a.ensures.0,
-  walk-next _ _ _ _ c.loop-i.invariant.2 c.visit_node-a.ensures.1,
-  c.visit_node-a.ensures.2 ∙ stored _ _ _ _ c.loop-i.invariant.3 (omega (arith, few-nodes _ c.requires.0, c.requires.2, c.requires.3)) refl,
+  all_below-or _ _ _ _ c.loop-i.invariant.0 c.visit_node-moved.ensures.0,
+  walk-next _ _ _ _ c.loop-i.invariant.1 c.visit_node-moved.ensures.1,
+  c.visit_node-moved.ensures.2 ∙ stored _ _ _ _ c.loop-i.invariant.2 (omega (arith, few-nodes _ c.requires.0, c.requires.2, c.requires.3)) refl,
 )
 
 pub returns : goal.returns
-returns c = let e : c.loop-i.i ≡ node_count c.args.image.now = omega (arith, c.loop-i-test.false, c.loop-i.invariant.0, c.requires.2) in
-    walk_end _ _ _ _ _ e c.loop-i.invariant.1 c.loop-i.invariant.2 c.loop-i.invariant.3
+returns c = let e : c.loop-i.i ≡ node_count c.args.image.now = omega (arith, c.loop-i-test.false, c.requires.2) in
+    walk_end _ _ _ _ _ e c.loop-i.invariant.0 c.loop-i.invariant.1 c.loop-i.invariant.2
