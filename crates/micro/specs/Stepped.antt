@@ -5,11 +5,11 @@ use Rattle.plexil.specs.Lists.{when◌then◌else◌, put}
 use Rattle.plexil.specs.Image.{Image}
 use Rattle.plexil.specs.Micro.{step, words, quiet}
 use Rattle.micro.specs.declared.steps.Stepped.{Stepped}
-use Rattle.micro.specs.declared.steps.StepEnd.TheVariants.{Quiet, NoRoom, Done}
+use Rattle.micro.specs.declared.steps.Stepped.TheVariants.{Quiet, NoRoom, Done}
 
 unfoldable pub stepped_of : Image → State → List ℕ → Stepped
 stepped_of p s part =
-    when quiet p s then record { end = Quiet; words = 0; state = s } else when leb (length (words p s)) (length part) then record { end = Done; words = length (words p s); state = step p s } else record { end = NoRoom; words = 0; state = s }
+    when quiet p s then Quiet else when leb (length (words p s)) (length part) then Done (length (words p s)) (step p s) else NoRoom
 
 -- "32 NoRoom": a step whose words do not fit writes nothing
 unfoldable pub part_after : Image → State → List ℕ → List ℕ

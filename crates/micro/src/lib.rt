@@ -6,4 +6,4 @@ mod steps;
 mod words;
 
 pub use rest::is_quiet;
-pub use steps::{StepEnd, Stepped, step};
+pub use steps::{Stepped, step};

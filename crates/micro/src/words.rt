@@ -20,12 +20,10 @@ pub fn count_words(sent: &[u8; 256], n: u16) -> u16
     ensures { result ≡ length (words_from (λ (i : ℕ). get_or sent.now i 0) 0 n) }
 {
     let mut count: u16 = 0;
-    let mut i: u16 = 0;
-    while i < n {
+    for i in 0..n {
         if sent[i as usize] != 0 {
             count += 1;
         }
-        i += 1;
     }
     count
 }
@@ -35,13 +33,11 @@ pub fn put_words(sent: &[u8; 256], n: u16, list: &mut [u32])
     ensures { list.new ≡ put list.old 0 (words_from (λ (i : ℕ). get_or sent.now i 0) 0 n) }
 {
     let mut at: usize = 0;
-    let mut i: u16 = 0;
-    while i < n {
+    for i in 0..n {
         let w = sent[i as usize];
         if w != 0 {
             list[at] = word(i, w);
             at += 1;
         }
-        i += 1;
     }
 }

@@ -1,6 +1,7 @@
 // A state lent array by array, so that what reads it takes no copy on its stack.
 ghost use Rattle.std.specs.Prelude.{◌≡◌};
 ghost use Rattle.plexil.specs.Lent.{state_in};
+ghost use Rattle.plexil.specs.Promises.{Sized};
 
 use super::State;
 
@@ -25,7 +26,8 @@ pub struct Before<'a> {
 
 impl State {
     pub fn lent(&self) -> Before<'_>
-        ensures { state_in result ≡ self.now }
+        ensures arrays { state_in result ≡ self.now }
+        ensures sized { Sized self.now }
     {
         Before {
             seen: Seen {

@@ -1,12 +1,9 @@
--- The count is that of the words of the nodes below i; what is left of the nodes falls.
+-- The count is that of the words of the nodes below i.
 use mathlib.Core.Path.{◌≡◌}
-use Prim.Native.Nat.{ℕ, ◌≤◌, ◌-◌}
+use Prim.Native.Nat.{ℕ, ◌≤◌}
 use lib.ListN.{length, get_or}
 use Rattle.plexil.specs.Micro.{words_from}
 use Rattle.micro.proofs.words.count_words.Given as goal
 
 abbrev pub invariant-loop-i : goal.invariant-loop-i
-invariant-loop-i l = (l.i ≤ l.n) × (l.count ≤ l.i) × (l.count ≡ length (words_from (λ (k : ℕ). get_or l.sent k 0) 0 l.i))
-
-abbrev pub decreases-loop-i : goal.decreases-loop-i
-decreases-loop-i l = l.n - l.i
+invariant-loop-i l = (l.count ≤ l.i) × (l.count ≡ length (words_from (λ (k : ℕ). get_or l.sent k 0) 0 l.i))

@@ -1,13 +1,10 @@
--- The list's part begins with the words of the nodes below i; what is left of the nodes falls.
+-- The list's part begins with the words of the nodes below i.
 use mathlib.Core.Path.{◌≡◌}
 use lib.ListN.{length, get_or}
-use Prim.Native.Nat.{ℕ, ◌≤◌, ◌-◌}
+use Prim.Native.Nat.{ℕ}
 use Rattle.plexil.specs.Lists.{put}
 use Rattle.plexil.specs.Micro.{words_from}
 use Rattle.micro.proofs.words.put_words.Given as goal
 
 abbrev pub invariant-loop-i : goal.invariant-loop-i
-invariant-loop-i l = (l.i ≤ l.n) × (l.at ≡ length (words_from (λ (k : ℕ). get_or l.sent k 0) 0 l.i)) × (l.list ≡ put l.initial.list 0 (words_from (λ (k : ℕ). get_or l.sent k 0) 0 l.i)) × (length l.list ≡ length l.initial.list)
-
-abbrev pub decreases-loop-i : goal.decreases-loop-i
-decreases-loop-i l = l.n - l.i
+invariant-loop-i l = (l.at ≡ length (words_from (λ (k : ℕ). get_or l.sent k 0) 0 l.i)) × (l.list ≡ put l.initial.list 0 (words_from (λ (k : ℕ). get_or l.sent k 0) 0 l.i)) × (length l.list ≡ length l.initial.list)
