@@ -4,20 +4,20 @@ ghost use Rattle.plexil.specs.declared.Rule.TheVariants as rule;
 ghost use Rattle.plexil.specs.Lists.{every, some};
 ghost use Rattle.plexil.specs.Image.{default, node_count, expr_count, condition_field, value_field, what};
 ghost use Rattle.plexil.specs.Scope.{is_above, in_scope, tree_in_scope, given_pass, if_assignment, good_reach};
-ghost use Rattle.records.specs.Broken.{found_of, lowest_broken};
+ghost use Rattle.plexil.specs.Searches.{found_of};
+ghost use Rattle.records.specs.Broken.{lowest_broken};
 ghost use Rattle.admit.specs.Owners.{Ordered, Owned};
 
 use super::owners::{allowed, asked};
-use plexil::Condition;
-use records::{Found, all_conditions};
+use plexil::{Condition, first};
+use records::all_conditions;
 
 // The owner is node i or above it; the walk goes up at most `left` nodes.
 pub(crate) fn is_above(image: &[u8], left: u32, owner: u16, i: u16) -> bool
     ensures { result ≡ is_above image.now left owner i }
 {
-    let mut left = left;
     let mut i = i;
-    while left > 0 {
+    for _ in 0..left {
         if owner == i {
             return true;
         }
@@ -25,7 +25,6 @@ pub(crate) fn is_above(image: &[u8], left: u32, owner: u16, i: u16) -> bool
             return false;
         }
         i = image::parent(image, i);
-        left -= 1;
     }
     false
 }
@@ -44,10 +43,7 @@ fn condition_in_scope<'a>(image: &'a [u8], owners: &'a [u16; 2048], i: u16, c: C
     ensures { result ≡ some (eqb (condition_field image.now i c) default ∷ tree_in_scope image.now i 12 (condition_field image.now i c) ∷ []) }
 {
     let e = image::condition_field(image, i, c);
-    if e == 65535 {
-        return true;
-    }
-    allowed(image, owners[e as usize], i)
+    e == 65535 || allowed(image, owners[e as usize], i)
 }
 
 fn conditions_in_scope<'a>(image: &'a [u8], owners: &'a [u16; 2048], i: u16) -> bool
@@ -56,15 +52,7 @@ fn conditions_in_scope<'a>(image: &'a [u8], owners: &'a [u16; 2048], i: u16) -> 
     requires i_bound { i < node_count image.now }
     ensures { result ≡ given_pass image.now i (tree_in_scope image.now i 12) }
 {
-    all_conditions(
-        condition_in_scope(image, owners, i, Condition::Skip),
-        condition_in_scope(image, owners, i, Condition::Start),
-        condition_in_scope(image, owners, i, Condition::Pre),
-        condition_in_scope(image, owners, i, Condition::Inv),
-        condition_in_scope(image, owners, i, Condition::End),
-        condition_in_scope(image, owners, i, Condition::Post),
-        condition_in_scope(image, owners, i, Condition::Repeat),
-    )
+    all_conditions(|c| condition_in_scope(image, owners, i, c))
 }
 
 fn assignment_in_scope<'a>(image: &'a [u8], owners: &'a [u16; 2048], i: u16) -> bool
@@ -77,11 +65,7 @@ fn assignment_in_scope<'a>(image: &'a [u8], owners: &'a [u16; 2048], i: u16) -> 
         return true;
     }
     let e = image::value_field(image, i);
-    if allowed(image, owners[e as usize], i) {
-        in_scope(image, i, image::what(image, i))
-    } else {
-        false
-    }
+    allowed(image, owners[e as usize], i) && in_scope(image, i, image::what(image, i))
 }
 
 fn good_reach<'a>(image: &'a [u8], owners: &'a [u16; 2048], i: u16) -> bool
@@ -90,11 +74,7 @@ fn good_reach<'a>(image: &'a [u8], owners: &'a [u16; 2048], i: u16) -> bool
     requires i_bound { i < node_count image.now }
     ensures { result ≡ good_reach image.now i }
 {
-    if conditions_in_scope(image, owners, i) {
-        assignment_in_scope(image, owners, i)
-    } else {
-        false
-    }
+    conditions_in_scope(image, owners, i) && assignment_in_scope(image, owners, i)
 }
 
 // What every entry asks.
@@ -102,31 +82,19 @@ fn all_owners(image: &[u8]) -> [u16; 2048]
     requires { Ordered image.now }
     ensures { Owned image.now (expr_count image.now) result }
 {
-    let n = image::expr_count(image);
     let mut owners = [0u16; 2048];
-    let mut e = 0;
-    while e < n {
+    for e in 0..image::expr_count(image) {
         let o = asked(image, &owners, e);
         owners[e as usize] = o;
-        e += 1;
     }
     owners
 }
 
 // "12 Reach: a node reads or assigns a variable whose owner is neither it nor above it"
-pub(crate) fn broken_reach(image: &[u8]) -> Found
+pub(crate) fn broken_reach(image: &[u8]) -> Option<u16>
     requires { Ordered image.now }
     ensures { found_of result ≡ lowest_broken rule.Reach image.now }
 {
-    let n = image::node_count(image);
     let owners = all_owners(image);
-    let mut i = 0;
-    while i < n {
-        if good_reach(image, &owners, i) {
-            i += 1;
-        } else {
-            return Found::At(i);
-        }
-    }
-    Found::Nowhere
+    first(image::node_count(image), |i| !good_reach(image, &owners, i))
 }

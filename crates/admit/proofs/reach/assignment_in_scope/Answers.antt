@@ -2,27 +2,13 @@
 use mathlib.Core.Path.{refl, sym, ap, ◌∙◌}
 use mathlib.Core.Bool.{not}
 use native.Mathlib.Omega.{arith}
-use borrow.Author.Rules.{rules}
 use Rattle.plexil.specs.Records.{is_assignment}
 use Rattle.plexil.specs.Scope.{if_assignment}
-use Rattle.plexil.proofs.TestLaws.{one-fails, and-then, and_last, one_passes, or-else, or-last, eq_yes, eq_no}
+use Rattle.plexil.proofs.TestLaws.{one-fails, and-then, and_last, or-else, or-last, eq_yes}
 use Rattle.admit.proofs.OwnerLaws.{few-entries, value-within}
 use Rattle.admit.proofs.reach.assignment_in_scope.Goals as goal
 
-pub returns-then-node_type-ne2 : goal.returns-then-node_type-ne2
-unfolding if_assignment is_assignment
-returns-then-node_type-ne2 c = one_passes _ (ap not (eq_no c.node_type.ensures refl c.if-node_type-ne2.true))
-
-pub overflow_cast-e : goal.overflow_cast-e
-unfolding if_assignment is_assignment
-overflow_cast-e c = search rules
-
-pub offset_bounds-owners-e : goal.offset_bounds-owners-e
-unfolding if_assignment is_assignment
-offset_bounds-owners-e c = search rules
-
 pub bounds-owners-e : goal.bounds-owners-e
-unfolding if_assignment is_assignment
 bounds-owners-e c = omega (arith, value-within _ c.requires.ordered _ _ c.requires.i_bound (sym c.node_type.ensures ∙ c.if-node_type-ne2.false) c.value_field-e.ensures, few-entries _ c.requires.ordered)
 
 pub returns-then-allowed : goal.returns-then-allowed
@@ -32,4 +18,4 @@ returns-then-allowed c = or-else _ (ap not (eq_yes c.node_type.ensures refl c.if
 
 pub returns-else-allowed : goal.returns-else-allowed
 unfolding if_assignment is_assignment
-returns-else-allowed c = or-else _ (ap not (eq_yes c.node_type.ensures refl c.if-node_type-ne2.false)) (or-last (one-fails _ 0 (sym (rw c.value_field-e.ensures at (c.allowed.ensures ∙ sym (c.requires.owned.asks _ (value-within _ c.requires.ordered _ _ c.requires.i_bound (sym c.node_type.ensures ∙ c.if-node_type-ne2.false) c.value_field-e.ensures) _ c.requires.i_bound))) ∙ c.if-allowed.false)))
+returns-else-allowed c = c.if-allowed.false ∙ or-else _ (ap not (eq_yes c.node_type.ensures refl c.if-node_type-ne2.false)) (or-last (one-fails _ 0 (sym (rw c.value_field-e.ensures at (c.allowed.ensures ∙ sym (c.requires.owned.asks _ (value-within _ c.requires.ordered _ _ c.requires.i_bound (sym c.node_type.ensures ∙ c.if-node_type-ne2.false) c.value_field-e.ensures) _ c.requires.i_bound))) ∙ c.if-allowed.false)))
