@@ -17,14 +17,12 @@ fn depth<'a>(image: &'a [u8], depths: &'a [u8; 2048], e: u16) -> u8
     if operator < 6 {
         return 1;
     }
-    let first = image::operand_a(image, e) as usize;
-    let a = depths[first];
+    let first = depths[image::operand_a(image, e) as usize];
     if operator == 6 {
-        return a + 1;
+        return first + 1;
     }
-    let second = image::operand_b(image, e) as usize;
-    let b = depths[second];
-    if a < b { b + 1 } else { a + 1 }
+    let second = depths[image::operand_b(image, e) as usize];
+    first.max(second) + 1
 }
 
 // "10 Deep: depth over 12"
