@@ -12,7 +12,7 @@ use Rattle.plexil.specs.Image.{Image, operator, operand_a, operand_b}
 use Rattle.plexil.specs.Expressions.{operator_of, operator_at}
 use Rattle.plexil.specs.Scope.{operands_pass, depth_within}
 use Rattle.admit.specs.Depth.{Depth}
-use Rattle.plexil.proofs.TestLaws.{one-fails, and-then, and_last, decides}
+use Rattle.plexil.proofs.TestLaws.{one-fails, and-then, and_last}
 use Rattle.plexil.proofs.OperatorNumbers.{a-leaf, a-binary}
 
 -- ---- one level more

@@ -36,45 +36,57 @@ fn in_scope(image: &[u8], i: u16, v: u16) -> bool
     is_above(image, i as u32 + 1, image::owner(image, v), i)
 }
 
-fn condition_in_scope<'a>(image: &'a [u8], owners: &'a [u16; 2048], i: u16, c: Condition) -> bool
-    requires ordered { Ordered image.now }
-    requires owned { Owned image.now (expr_count image.now) owners.now }
-    requires i_bound { i < node_count image.now }
-    ensures { result ≡ some (eqb (condition_field image.now i c) default ∷ tree_in_scope image.now i 12 (condition_field image.now i c) ∷ []) }
-{
-    let e = image::condition_field(image, i, c);
-    e == 65535 || allowed(image, owners[e as usize], i)
+// An image that has passed the rules before this one, with the table of what every entry asks.
+#[derive(Clone, Copy)]
+struct Reach<'a> {
+    image: &'a [u8],
+    owners: &'a [u16; 2048],
+    ghost ordered: { Ordered image.now },
+    ghost owned: { Owned image.now (expr_count image.now) owners.now },
 }
 
-fn conditions_in_scope<'a>(image: &'a [u8], owners: &'a [u16; 2048], i: u16) -> bool
-    requires ordered { Ordered image.now }
-    requires owned { Owned image.now (expr_count image.now) owners.now }
-    requires i_bound { i < node_count image.now }
-    ensures { result ≡ given_pass image.now i (tree_in_scope image.now i 12) }
-{
-    all_conditions(|c| condition_in_scope(image, owners, i, c))
-}
-
-fn assignment_in_scope<'a>(image: &'a [u8], owners: &'a [u16; 2048], i: u16) -> bool
-    requires ordered { Ordered image.now }
-    requires owned { Owned image.now (expr_count image.now) owners.now }
-    requires i_bound { i < node_count image.now }
-    ensures { result ≡ if_assignment image.now i (every (tree_in_scope image.now i 12 (value_field image.now i) ∷ in_scope image.now i (what image.now i) ∷ [])) }
-{
-    if image::node_type(image, i) != 2 {
-        return true;
+impl<'a> Reach<'a> {
+    // Node i may read each variable in the tree at e.
+    fn may_read(&self, i: u16, e: u16) -> bool
+        requires i_bound { i < node_count self.now.image.now }
+        requires e_bound { e < expr_count self.now.image.now }
+        ensures { result ≡ tree_in_scope self.now.image.now i 12 e }
+    {
+        allowed(self.image, self.owners[e as usize], i)
     }
-    let e = image::value_field(image, i);
-    allowed(image, owners[e as usize], i) && in_scope(image, i, image::what(image, i))
-}
 
-fn good_reach<'a>(image: &'a [u8], owners: &'a [u16; 2048], i: u16) -> bool
-    requires ordered { Ordered image.now }
-    requires owned { Owned image.now (expr_count image.now) owners.now }
-    requires i_bound { i < node_count image.now }
-    ensures { result ≡ good_reach image.now i }
-{
-    conditions_in_scope(image, owners, i) && assignment_in_scope(image, owners, i)
+    fn condition_in_scope(&self, i: u16, c: Condition) -> bool
+        requires { i < node_count self.now.image.now }
+        ensures { result ≡ some (eqb (condition_field self.now.image.now i c) default ∷ tree_in_scope self.now.image.now i 12 (condition_field self.now.image.now i c) ∷ []) }
+    {
+        let e = image::condition_field(self.image, i, c);
+        e == 65535 || self.may_read(i, e)
+    }
+
+    fn conditions_in_scope(&self, i: u16) -> bool
+        requires { i < node_count self.now.image.now }
+        ensures { result ≡ given_pass self.now.image.now i (tree_in_scope self.now.image.now i 12) }
+    {
+        all_conditions(|c| self.condition_in_scope(i, c))
+    }
+
+    fn assignment_in_scope(&self, i: u16) -> bool
+        requires { i < node_count self.now.image.now }
+        ensures { result ≡ if_assignment self.now.image.now i (every (tree_in_scope self.now.image.now i 12 (value_field self.now.image.now i) ∷ in_scope self.now.image.now i (what self.now.image.now i) ∷ [])) }
+    {
+        if image::node_type(self.image, i) != 2 {
+            return true;
+        }
+        let e = image::value_field(self.image, i);
+        self.may_read(i, e) && in_scope(self.image, i, image::what(self.image, i))
+    }
+
+    fn good(&self, i: u16) -> bool
+        requires { i < node_count self.now.image.now }
+        ensures { result ≡ good_reach self.now.image.now i }
+    {
+        self.conditions_in_scope(i) && self.assignment_in_scope(i)
+    }
 }
 
 // What every entry asks.
@@ -96,5 +108,9 @@ pub(crate) fn broken_reach(image: &[u8]) -> Option<u16>
     ensures { found_of result ≡ lowest_broken rule.Reach image.now }
 {
     let owners = all_owners(image);
-    first(image::node_count(image), |i| !good_reach(image, &owners, i))
+    let reach = Reach {
+        image,
+        owners: &owners,
+    };
+    first(image::node_count(image), |i| !reach.good(i))
 }
