@@ -1,37 +1,31 @@
 -- The depth of an entry from its operands'.
-use Prim.Native.Nat.{ℕ, zero, suc, ◌+◌, ◌≤◌, ◌<◌}
+use Prim.Native.Nat.{ℕ, zero, suc, ◌+◌, ◌≤◌, ◌<◌, max}
 use mathlib.Core.Path.{◌≡◌, refl, sym, ◌∙◌}
 use mathlib.Core.Bool.{Bool, true, false}
 use mathlib.Core.List.{[], ◌∷◌}
 use native.Mathlib.Omega.{arith}
 use native.Mathlib.Numerals.{add-one}
 use lib.Dec.{leb, leb-suc-suc}
-use borrow.Author.Tests.{leb-true, le-leb, lt-leb}
+use borrow.Author.Tests.{leb-true, leb-false, le-leb, lt-leb}
 use Rattle.plexil.specs.Lists.{every}
 use Rattle.plexil.specs.Image.{Image, operator, operand_a, operand_b}
 use Rattle.plexil.specs.Expressions.{operator_of, operator_at}
 use Rattle.plexil.specs.Scope.{operands_pass, depth_within}
 use Rattle.admit.specs.Depth.{Depth}
-use Rattle.plexil.proofs.TestLaws.{one-fails, and-then, and_last, decides}
+use Rattle.plexil.proofs.TestLaws.{one-fails, and-then, and_last}
 use Rattle.plexil.proofs.OperatorNumbers.{a-leaf, a-binary}
 
 -- ---- one level more
 one_deeper : (t d : ℕ) → leb t d ≡ leb (t + 1) (suc d)
 one_deeper t d = rw (add-one t) (sym (leb-suc-suc t d))
 
-second-deeper : (a b d : ℕ) → a ≤ b → leb b d ≡ every (leb a d ∷ leb b d ∷ [])
-second-deeper a b d h = go (leb b d) refl
+deepest : (a b d : ℕ) → leb (max a b) d ≡ every (leb a d ∷ leb b d ∷ [])
+deepest a b d = go (leb a d) refl (leb b d) refl
   where
-    go : (t : Bool) → leb b d ≡ t → leb b d ≡ every (leb a d ∷ leb b d ∷ [])
-    go true t = and-then _ (le-leb a d (omega (arith, leb-true b d t))) (and_last refl)
-    go false t = t ∙ one-fails _ 1 t
-
-first-deeper : (a b d : ℕ) → b ≤ a → leb a d ≡ every (leb a d ∷ leb b d ∷ [])
-first-deeper a b d h = go (leb a d) refl
-  where
-    go : (t : Bool) → leb a d ≡ t → leb a d ≡ every (leb a d ∷ leb b d ∷ [])
-    go true t = decides _ (and_last (sym (le-leb b d (omega (arith, leb-true a d t))))) refl
-    go false t = t ∙ one-fails _ 0 t
+    go : (t : Bool) → leb a d ≡ t → (u : Bool) → leb b d ≡ u → leb (max a b) d ≡ every (leb a d ∷ leb b d ∷ [])
+    go true e true f = le-leb (max a b) d (omega (arith, leb-true a d e, leb-true b d f)) ∙ and-then _ e (and_last (sym f))
+    go true e false f = lt-leb (max a b) d (omega (arith, leb-false b d f)) ∙ one-fails _ 1 f
+    go false e u f = lt-leb (max a b) d (omega (arith, leb-false a d e)) ∙ one-fails _ 0 e
 
 -- op is the operator of entry e
 module _ (p : Image) (e : ℕ) {op : ℕ} (is : op ≡ operator p e) where
@@ -46,14 +40,7 @@ module _ (p : Image) (e : ℕ) {op : ℕ} (is : op ≡ operator p e) where
   depth-not a h f (suc d) = rw (← is, h) (f d ∙ one_deeper a d)
 
   module _ (a b : ℕ) (h : 6 < op) (g : op ≤ 14) (fa : Depth p (operand_a p e) a) (fb : Depth p (operand_b p e) b) where
-    pub depth-second : a < b → Depth p e (b + 1)
+    pub depth-both : Depth p e (max a b + 1)
     unfolding depth_within operator_at operands_pass
-    depth-second l zero = sym (lt-leb (b + 1) 0 (omega arith))
-    depth-second l (suc d) =
-        rw (← is, (a-binary op h g).1, fa d, fb d) (sym (second-deeper a b d (omega arith)) ∙ one_deeper b d)
-
-    pub depth-first : b ≤ a → Depth p e (a + 1)
-    unfolding depth_within operator_at operands_pass
-    depth-first l zero = sym (lt-leb (a + 1) 0 (omega arith))
-    depth-first l (suc d) =
-        rw (← is, (a-binary op h g).1, fa d, fb d) (sym (first-deeper a b d (omega arith)) ∙ one_deeper a d)
+    depth-both zero = sym (lt-leb (max a b + 1) 0 (omega arith))
+    depth-both (suc d) = rw (← is, (a-binary op h g).1, fa d, fb d) (sym (deepest a b d) ∙ one_deeper (max a b) d)

@@ -1,6 +1,6 @@
 -- The table of depths, and the next entry from it.
-use Prim.Native.Nat.{ℕ, ◌+◌, ◌≤◌, ◌<◌}
-use mathlib.Core.Path.{◌≡◌, ◌∙◌, subst}
+use Prim.Native.Nat.{ℕ, ◌+◌, ◌≤◌, ◌<◌, max}
+use mathlib.Core.Path.{◌≡◌, sym, ◌∙◌, subst}
 use mathlib.Core.List.{List}
 use mathlib.Core.Logic.{◌⊎◌, inl, inr}
 use native.Mathlib.Omega.{arith}
@@ -9,7 +9,7 @@ use lib.Seq.{get_or-set_same, get_or-set_other}
 use Rattle.plexil.specs.Image.{Image, expr_count, operator, operand_a, operand_b}
 use Rattle.plexil.proofs.ListLaws.{same?}
 use Rattle.admit.specs.Depth.{Depth, Passed, Filled}
-use Rattle.admit.proofs.DepthLaws.{depth-not, depth-first, depth-second}
+use Rattle.admit.proofs.DepthLaws.{depth-not, depth-both}
 use Rattle.admit.proofs.Ordered.{few, known-operator, first-lower, second-lower}
 
 pub filled_next : (p : Image) (e d : ℕ) (t : List ℕ) → Filled p e t → e < 2048 → Depth p e d → d ≤ 12 → Filled p (e + 1) (set t e d)
@@ -60,10 +60,6 @@ module _ {p : Image} {e : ℕ} {t : List ℕ} (pre : Passed p × ((e < expr_coun
     depth-b : Depth p (operand_b p e) (get_or t b 0)
     depth-b = subst (λ (k : ℕ). Depth p k (get_or t b 0)) is_b (pre.1.1.depths b second_below)
 
-    pub second-entry : get_or t a 0 < get_or t b 0 → Depth p e (get_or t b 0 + 1)
-    second-entry =
-        depth-second p e is _ _ (omega (arith, other)) (known-operator p pre.0 e pre.1.0 is) (depth-a from) depth-b
-
-    pub first_entry : get_or t b 0 ≤ get_or t a 0 → Depth p e (get_or t a 0 + 1)
-    first_entry =
-        depth-first p e is _ _ (omega (arith, other)) (known-operator p pre.0 e pre.1.0 is) (depth-a from) depth-b
+    pub deeper-entry : {m : ℕ} → m ≡ max (get_or t a 0) (get_or t b 0) → Depth p e (m + 1)
+    deeper-entry {m} q = subst (λ (k : ℕ). Depth p e (k + 1)) (sym q)
+        (depth-both p e is _ _ (omega (arith, other)) (known-operator p pre.0 e pre.1.0 is) (depth-a from) depth-b)

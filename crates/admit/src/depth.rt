@@ -2,10 +2,9 @@
 ghost use Rattle.std.specs.Prelude.{◌≡◌, ◌<◌};
 ghost use Rattle.plexil.specs.declared.Rule.TheVariants as rule;
 ghost use Rattle.plexil.specs.Image.{expr_count};
-ghost use Rattle.records.specs.Broken.{found_of, lowest_broken};
+ghost use Rattle.plexil.specs.Searches.{found_of};
+ghost use Rattle.records.specs.Broken.{lowest_broken};
 ghost use Rattle.admit.specs.Depth.{Depth, Passed, Filled};
-
-use records::Found;
 
 // "A leaf has depth 1, an operator one more than its deepest operand"
 fn depth<'a>(image: &'a [u8], depths: &'a [u8; 2048], e: u16) -> u8
@@ -18,31 +17,26 @@ fn depth<'a>(image: &'a [u8], depths: &'a [u8; 2048], e: u16) -> u8
     if operator < 6 {
         return 1;
     }
-    let first = image::operand_a(image, e) as usize;
-    let a = depths[first];
+    let first = depths[image::operand_a(image, e) as usize];
     if operator == 6 {
-        return a + 1;
+        return first + 1;
     }
-    let second = image::operand_b(image, e) as usize;
-    let b = depths[second];
-    if a < b { b + 1 } else { a + 1 }
+    let second = depths[image::operand_b(image, e) as usize];
+    first.max(second) + 1
 }
 
 // "10 Deep: depth over 12"
-pub(crate) fn broken_deep(image: &[u8]) -> Found
+pub(crate) fn broken_deep(image: &[u8]) -> Option<u16>
     requires { Passed image.now }
     ensures { found_of result ≡ lowest_broken rule.Deep image.now }
 {
-    let n = image::expr_count(image);
     let mut depths = [0u8; 2048];
-    let mut i = 0;
-    while i < n {
+    for i in 0..image::expr_count(image) {
         let d = depth(image, &depths, i);
         if d > 12 {
-            return Found::At(i);
+            return Some(i);
         }
         depths[i as usize] = d;
-        i += 1;
     }
-    Found::Nowhere
+    None
 }

@@ -4,67 +4,42 @@ ghost use Rattle.plexil.specs.declared.Rule.TheVariants as rule;
 ghost use Rattle.plexil.specs.Lists.{some};
 ghost use Rattle.plexil.specs.Image.{default, condition_field, value_field, what, result_kind, var_kind};
 ghost use Rattle.plexil.specs.Scope.{given_pass, if_assignment, good_kinds};
-ghost use Rattle.records.specs.Broken.{found_of, lowest_broken};
+ghost use Rattle.plexil.specs.Searches.{found_of};
+ghost use Rattle.records.specs.Broken.{lowest_broken};
 
-use plexil::Condition;
-use records::{Found, all_conditions};
+use plexil::{Condition, first};
+use records::all_conditions;
 
 fn bool_condition(image: &[u8], i: u16, c: Condition) -> bool
     ensures { result ≡ some (eqb (condition_field image.now i c) default ∷ eqb (result_kind image.now (condition_field image.now i c)) 0 ∷ []) }
 {
     let e = image::condition_field(image, i, c);
-    if e == 65535 {
-        return true;
-    }
-    image::result_kind(image, e) == 0
+    e == 65535 || image::result_kind(image, e) == 0
 }
 
 fn bool_conditions(image: &[u8], i: u16) -> bool
     ensures { result ≡ given_pass image.now i (λ e. eqb (result_kind image.now e) 0) }
 {
-    all_conditions(
-        bool_condition(image, i, Condition::Skip),
-        bool_condition(image, i, Condition::Start),
-        bool_condition(image, i, Condition::Pre),
-        bool_condition(image, i, Condition::Inv),
-        bool_condition(image, i, Condition::End),
-        bool_condition(image, i, Condition::Post),
-        bool_condition(image, i, Condition::Repeat),
-    )
+    all_conditions(|c| bool_condition(image, i, c))
 }
 
 fn good_value(image: &[u8], i: u16) -> bool
     ensures { result ≡ if_assignment image.now i (eqb (result_kind image.now (value_field image.now i)) (var_kind image.now (what image.now i))) }
 {
-    if image::node_type(image, i) != 2 {
-        return true;
-    }
-    image::result_kind(image, image::value_field(image, i))
-        == image::var_kind(image, image::what(image, i))
+    image::node_type(image, i) != 2
+        || image::result_kind(image, image::value_field(image, i))
+            == image::var_kind(image, image::what(image, i))
 }
 
 fn good_kinds(image: &[u8], i: u16) -> bool
     ensures { result ≡ good_kinds image.now i }
 {
-    if bool_conditions(image, i) {
-        good_value(image, i)
-    } else {
-        false
-    }
+    bool_conditions(image, i) && good_value(image, i)
 }
 
 // "11 Kind: condition not Bool, value kind not the target's"
-pub(crate) fn broken_kind(image: &[u8]) -> Found
+pub(crate) fn broken_kind(image: &[u8]) -> Option<u16>
     ensures { found_of result ≡ lowest_broken rule.Kind image.now }
 {
-    let n = image::node_count(image);
-    let mut i = 0;
-    while i < n {
-        if good_kinds(image, i) {
-            i += 1;
-        } else {
-            return Found::At(i);
-        }
-    }
-    Found::Nowhere
+    first(image::node_count(image), |i| !good_kinds(image, i))
 }

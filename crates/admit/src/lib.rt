@@ -1,5 +1,5 @@
 // The check of a plan image: the lowest broken of the rules 1 to 12, with the lowest record that breaks it.
-#![tactic(auto)]
+#![tactic(auto, unfolding(plexil::specs::Lists::opened, plexil::specs::Check::opened, plexil::specs::Records::is_assignment, plexil::specs::Scope::given_pass, plexil::specs::Scope::if_assignment, plexil::specs::Scope::good_kinds, plexil::specs::Scope::good_reach, plexil::specs::Replies::checked_by, plexil::specs::Replies::check_reply))]
 
 mod depth;
 mod kinds;
@@ -18,36 +18,27 @@ use plexil::{Checked, Counts, Verdict};
 fn counts(image: &[u8]) -> Counts
     ensures { result ≡ counts_of image.now }
 {
-    let nodes = image::node_count(image);
-    let exprs = image::expr_count(image);
-    let vars = image::var_count(image);
-    let looks = image::look_count(image);
     Counts {
-        nodes,
-        exprs,
-        vars,
-        looks,
+        nodes: image::node_count(image),
+        exprs: image::expr_count(image),
+        vars: image::var_count(image),
+        looks: image::look_count(image),
     }
 }
 
-fn checked(image: &[u8], v: Verdict) -> Checked
-    ensures { result ≡ checked_by v image.now }
+fn checked(image: &[u8], verdict: Verdict) -> Checked
+    ensures { result ≡ checked_by verdict image.now }
 {
-    match v {
-        Verdict::Admitted => Checked {
-            verdict: Verdict::Admitted,
-            counts: counts(image),
+    let counts = match verdict {
+        Verdict::Admitted => counts(image),
+        Verdict::Refused(_, _) => Counts {
+            nodes: 0,
+            exprs: 0,
+            vars: 0,
+            looks: 0,
         },
-        Verdict::Refused(rule, i) => Checked {
-            verdict: Verdict::Refused(rule, i),
-            counts: Counts {
-                nodes: 0,
-                exprs: 0,
-                vars: 0,
-                looks: 0,
-            },
-        },
-    }
+    };
+    Checked { verdict, counts }
 }
 
 // The verdict with the checked counts, all 0 where the image is refused.

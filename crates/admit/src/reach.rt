@@ -4,20 +4,20 @@ ghost use Rattle.plexil.specs.declared.Rule.TheVariants as rule;
 ghost use Rattle.plexil.specs.Lists.{every, some};
 ghost use Rattle.plexil.specs.Image.{default, node_count, expr_count, condition_field, value_field, what};
 ghost use Rattle.plexil.specs.Scope.{is_above, in_scope, tree_in_scope, given_pass, if_assignment, good_reach};
-ghost use Rattle.records.specs.Broken.{found_of, lowest_broken};
+ghost use Rattle.plexil.specs.Searches.{found_of};
+ghost use Rattle.records.specs.Broken.{lowest_broken};
 ghost use Rattle.admit.specs.Owners.{Ordered, Owned};
 
 use super::owners::{allowed, asked};
-use plexil::Condition;
-use records::{Found, all_conditions};
+use plexil::{Condition, first};
+use records::all_conditions;
 
 // The owner is node i or above it; the walk goes up at most `left` nodes.
 pub(crate) fn is_above(image: &[u8], left: u32, owner: u16, i: u16) -> bool
     ensures { result ≡ is_above image.now left owner i }
 {
-    let mut left = left;
     let mut i = i;
-    while left > 0 {
+    for _ in 0..left {
         if owner == i {
             return true;
         }
@@ -25,7 +25,6 @@ pub(crate) fn is_above(image: &[u8], left: u32, owner: u16, i: u16) -> bool
             return false;
         }
         i = image::parent(image, i);
-        left -= 1;
     }
     false
 }
@@ -37,63 +36,56 @@ fn in_scope(image: &[u8], i: u16, v: u16) -> bool
     is_above(image, i as u32 + 1, image::owner(image, v), i)
 }
 
-fn condition_in_scope<'a>(image: &'a [u8], owners: &'a [u16; 2048], i: u16, c: Condition) -> bool
-    requires ordered { Ordered image.now }
-    requires owned { Owned image.now (expr_count image.now) owners.now }
-    requires i_bound { i < node_count image.now }
-    ensures { result ≡ some (eqb (condition_field image.now i c) default ∷ tree_in_scope image.now i 12 (condition_field image.now i c) ∷ []) }
-{
-    let e = image::condition_field(image, i, c);
-    if e == 65535 {
-        return true;
-    }
-    allowed(image, owners[e as usize], i)
+// An image that has passed the rules before this one, with the table of what every entry asks.
+#[derive(Clone, Copy)]
+struct Reach<'a> {
+    image: &'a [u8],
+    owners: &'a [u16; 2048],
+    ghost ordered: { Ordered image.now },
+    ghost owned: { Owned image.now (expr_count image.now) owners.now },
 }
 
-fn conditions_in_scope<'a>(image: &'a [u8], owners: &'a [u16; 2048], i: u16) -> bool
-    requires ordered { Ordered image.now }
-    requires owned { Owned image.now (expr_count image.now) owners.now }
-    requires i_bound { i < node_count image.now }
-    ensures { result ≡ given_pass image.now i (tree_in_scope image.now i 12) }
-{
-    all_conditions(
-        condition_in_scope(image, owners, i, Condition::Skip),
-        condition_in_scope(image, owners, i, Condition::Start),
-        condition_in_scope(image, owners, i, Condition::Pre),
-        condition_in_scope(image, owners, i, Condition::Inv),
-        condition_in_scope(image, owners, i, Condition::End),
-        condition_in_scope(image, owners, i, Condition::Post),
-        condition_in_scope(image, owners, i, Condition::Repeat),
-    )
-}
-
-fn assignment_in_scope<'a>(image: &'a [u8], owners: &'a [u16; 2048], i: u16) -> bool
-    requires ordered { Ordered image.now }
-    requires owned { Owned image.now (expr_count image.now) owners.now }
-    requires i_bound { i < node_count image.now }
-    ensures { result ≡ if_assignment image.now i (every (tree_in_scope image.now i 12 (value_field image.now i) ∷ in_scope image.now i (what image.now i) ∷ [])) }
-{
-    if image::node_type(image, i) != 2 {
-        return true;
+impl<'a> Reach<'a> {
+    // Node i may read each variable in the tree at e.
+    fn may_read(&self, i: u16, e: u16) -> bool
+        requires i_bound { i < node_count self.now.image.now }
+        requires e_bound { e < expr_count self.now.image.now }
+        ensures { result ≡ tree_in_scope self.now.image.now i 12 e }
+    {
+        allowed(self.image, self.owners[e as usize], i)
     }
-    let e = image::value_field(image, i);
-    if allowed(image, owners[e as usize], i) {
-        in_scope(image, i, image::what(image, i))
-    } else {
-        false
-    }
-}
 
-fn good_reach<'a>(image: &'a [u8], owners: &'a [u16; 2048], i: u16) -> bool
-    requires ordered { Ordered image.now }
-    requires owned { Owned image.now (expr_count image.now) owners.now }
-    requires i_bound { i < node_count image.now }
-    ensures { result ≡ good_reach image.now i }
-{
-    if conditions_in_scope(image, owners, i) {
-        assignment_in_scope(image, owners, i)
-    } else {
-        false
+    fn condition_in_scope(&self, i: u16, c: Condition) -> bool
+        requires { i < node_count self.now.image.now }
+        ensures { result ≡ some (eqb (condition_field self.now.image.now i c) default ∷ tree_in_scope self.now.image.now i 12 (condition_field self.now.image.now i c) ∷ []) }
+    {
+        let e = image::condition_field(self.image, i, c);
+        e == 65535 || self.may_read(i, e)
+    }
+
+    fn conditions_in_scope(&self, i: u16) -> bool
+        requires { i < node_count self.now.image.now }
+        ensures { result ≡ given_pass self.now.image.now i (tree_in_scope self.now.image.now i 12) }
+    {
+        all_conditions(|c| self.condition_in_scope(i, c))
+    }
+
+    fn assignment_in_scope(&self, i: u16) -> bool
+        requires { i < node_count self.now.image.now }
+        ensures { result ≡ if_assignment self.now.image.now i (every (tree_in_scope self.now.image.now i 12 (value_field self.now.image.now i) ∷ in_scope self.now.image.now i (what self.now.image.now i) ∷ [])) }
+    {
+        if image::node_type(self.image, i) != 2 {
+            return true;
+        }
+        let e = image::value_field(self.image, i);
+        self.may_read(i, e) && in_scope(self.image, i, image::what(self.image, i))
+    }
+
+    fn good(&self, i: u16) -> bool
+        requires { i < node_count self.now.image.now }
+        ensures { result ≡ good_reach self.now.image.now i }
+    {
+        self.conditions_in_scope(i) && self.assignment_in_scope(i)
     }
 }
 
@@ -102,31 +94,23 @@ fn all_owners(image: &[u8]) -> [u16; 2048]
     requires { Ordered image.now }
     ensures { Owned image.now (expr_count image.now) result }
 {
-    let n = image::expr_count(image);
     let mut owners = [0u16; 2048];
-    let mut e = 0;
-    while e < n {
+    for e in 0..image::expr_count(image) {
         let o = asked(image, &owners, e);
         owners[e as usize] = o;
-        e += 1;
     }
     owners
 }
 
 // "12 Reach: a node reads or assigns a variable whose owner is neither it nor above it"
-pub(crate) fn broken_reach(image: &[u8]) -> Found
+pub(crate) fn broken_reach(image: &[u8]) -> Option<u16>
     requires { Ordered image.now }
     ensures { found_of result ≡ lowest_broken rule.Reach image.now }
 {
-    let n = image::node_count(image);
     let owners = all_owners(image);
-    let mut i = 0;
-    while i < n {
-        if good_reach(image, &owners, i) {
-            i += 1;
-        } else {
-            return Found::At(i);
-        }
-    }
-    Found::Nowhere
+    let reach = Reach {
+        image,
+        owners: &owners,
+    };
+    first(image::node_count(image), |i| !reach.good(i))
 }

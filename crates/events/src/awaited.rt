@@ -1,44 +1,29 @@
 // "25 NotAwaited: return for a node not Executing or Failing, or marked already"
 ghost use Rattle.std.specs.Prelude.{◌≡◌};
-ghost use Rattle.plexil.specs.declared.State.{State};
 ghost use Rattle.plexil.specs.Lists.{first};
 ghost use Rattle.plexil.specs.Macro.{entry_count, awaited, not_awaited};
-ghost use Rattle.events.specs.Found.{found_of};
+ghost use Rattle.plexil.specs.Searches.{found_of};
 
 use super::entries::{entry_form, index};
-use super::found::Found;
 use super::shape::entry_count;
 use form::is_awaiting;
-use places::{at, status_at};
+use places::status_at;
+use plexil::{State, first, get_or};
 
-fn is_awaited(st: &[u8], mk: &[u8], i: u16) -> bool
-    ensures { (s : State) → s.status ≡ st.now → s.mark ≡ mk.now → result ≡ awaited s i }
+fn is_awaited(state: &State, i: u16) -> bool
+    ensures { result ≡ awaited state.now i }
 {
-    if is_awaiting(status_at(st, i)) {
-        return at(mk, i) == 0;
-    }
-    false
+    is_awaiting(status_at(&state.status, i)) && get_or(&state.mark, i, 0) == 0
 }
 
-fn not_awaited(st: &[u8], mk: &[u8], event: &[u8], k: u16) -> bool
-    ensures { (s : State) → s.status ≡ st.now → s.mark ≡ mk.now → result ≡ not_awaited s event.now k }
+fn not_awaited(state: &State, event: &[u8], k: u16) -> bool
+    ensures { result ≡ not_awaited state.now event.now k }
 {
-    if entry_form(event, k) != 2 {
-        return false;
-    }
-    !is_awaited(st, mk, index(event, k))
+    entry_form(event, k) == 2 && !is_awaited(state, index(event, k))
 }
 
-pub(crate) fn first_not_awaited<'a>(st: &'a [u8], mk: &'a [u8], event: &[u8]) -> Found
-    ensures { (s : State) → s.status ≡ st.now → s.mark ≡ mk.now → found_of result ≡ first (entry_count event.now) (not_awaited s event.now) }
+pub(crate) fn first_not_awaited(state: &State, event: &[u8]) -> Option<u16>
+    ensures { found_of result ≡ first (entry_count event.now) (not_awaited state.now event.now) }
 {
-    let n = entry_count(event);
-    let mut k: u16 = 0;
-    while k < n {
-        if not_awaited(st, mk, event, k) {
-            return Found::At(k);
-        }
-        k += 1;
-    }
-    Found::Nowhere
+    first(entry_count(event), |k| not_awaited(state, event, k))
 }

@@ -1,6 +1,6 @@
 // "An accepted event changes lookups and marks".
 ghost use Rattle.std.specs.Prelude.{◌≡◌};
-ghost use Rattle.plexil.specs.Macro.{form_of, entry_count, with_lookup, with_mark, enter, entered};
+ghost use Rattle.plexil.specs.Macro.{form, form_of, entry_count, with_lookup, with_mark, enter, entered};
 
 use super::entries::{entry_bits, entry_form, index};
 use super::shape::entry_count;
@@ -15,9 +15,8 @@ fn with_lookup(s: State, l: u16, c: Cell) -> State
     if k < 64 {
         t.looktags[k] = c.tag;
         t.lookbits[k] = c.bits;
-        return t;
     }
-    s
+    t
 }
 
 fn with_mark(s: State, i: u16) -> State
@@ -27,17 +26,15 @@ fn with_mark(s: State, i: u16) -> State
     let mut t = s;
     if k < 256 {
         t.mark[k] = 1;
-        return t;
     }
-    s
+    t
 }
 
-// Entry k, of form f.
-fn enter(image: &[u8], event: &[u8], k: u16, f: u8, s: State) -> State
-    ensures { result ≡ enter image.now event.now k (form_of f) s }
+fn enter(image: &[u8], event: &[u8], k: u16, s: State) -> State
+    ensures { result ≡ enter image.now event.now k (form_of (form event.now k)) s }
 {
     let i = index(event, k);
-    match f {
+    match entry_form(event, k) {
         0 => with_lookup(
             s,
             i,
@@ -51,12 +48,9 @@ fn enter(image: &[u8], event: &[u8], k: u16, f: u8, s: State) -> State
 pub fn entered(image: &[u8], state: State, event: &[u8]) -> State
     ensures { result ≡ entered image.now event.now (entry_count event.now) state }
 {
-    let n = entry_count(event);
     let mut t = state;
-    let mut k: u16 = 0;
-    while k < n {
-        t = enter(image, event, k, entry_form(event, k), t);
-        k += 1;
+    for k in 0..entry_count(event) {
+        t = enter(image, event, k, t);
     }
     t
 }

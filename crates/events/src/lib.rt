@@ -1,12 +1,11 @@
 // "Events": refusals 20 to 25 in order, and what an accepted event changes.
-#![tactic(auto)]
+#![tactic(auto, unfolding(plexil::specs::Lists::opened, plexil::specs::Macro::opened, plexil::specs::Records::is_command, plexil::specs::Places::mark_at))]
 
 mod answers;
 mod awaited;
 mod card;
 mod enter;
 mod entries;
-mod found;
 mod shape;
 mod twice;
 mod wrong;
@@ -26,11 +25,11 @@ pub fn event_answer(image: &[u8], state: State, card: Card, event: &[u8]) -> Tes
     if card.phase != 1 {
         return Tested::Refused(RunAnswer::Busy);
     }
-    if good_shape(event) {
-        if event_serial(event) != card.serial {
-            return Tested::Refused(RunAnswer::Turn);
-        }
-        return entries_answer(image, &state.status, &state.mark, event);
+    if !good_shape(event) {
+        return Tested::Refused(RunAnswer::Shape);
     }
-    Tested::Refused(RunAnswer::Shape)
+    if event_serial(event) != card.serial {
+        return Tested::Refused(RunAnswer::Turn);
+    }
+    entries_answer(image, &state, event)
 }

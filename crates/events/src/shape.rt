@@ -19,11 +19,5 @@ pub(crate) fn good_shape(event: &[u8]) -> bool
     ensures { result ≡ good_shape event.now }
 {
     let n = entry_count(event);
-    if n > 128 {
-        return false;
-    }
-    if image::le16(event, 6) != 0 {
-        return false;
-    }
-    event.len() == 8 + 12 * (n as usize)
+    n <= 128 && image::le16(event, 6) == 0 && event.len() == 8 + 12 * (n as usize)
 }

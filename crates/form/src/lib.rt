@@ -1,5 +1,5 @@
 // Refusal 30: "state .. breaks the form, kinds or parent table, a mark off such a command". The part about the card is in crate turns.
-#![tactic(auto)]
+#![tactic(auto, unfolding(plexil::specs::Lists::opened, plexil::specs::Form::opened, plexil::specs::Places::opened, plexil::specs::Atomic::is_closing, plexil::specs::Records::is_list, plexil::specs::Records::is_command, plexil::specs::Records::is_assignment))]
 
 mod cells;
 mod nodes;
@@ -9,27 +9,22 @@ mod unused;
 ghost use Rattle.std.specs.Prelude.{◌≡◌};
 ghost use Rattle.plexil.specs.Form.{good_state};
 
-use cells::{good_looks, good_vars};
-use nodes::good_places;
-use plexil::State;
+use cells::has_kind;
+use nodes::good_place;
+use plexil::{State, all_below};
 pub use statuses::is_awaiting;
 use unused::unused_empty;
 
 pub fn good_state(image: &[u8], state: State) -> bool
     ensures { result ≡ good_state image.now state }
 {
-    if good_places(
-        image,
-        &state.status,
-        &state.outcome,
-        &state.failure,
-        &state.mark,
-    ) {
-        if good_vars(image, &state.vartags, &state.varbits) {
-            if good_looks(image, &state.looktags, &state.lookbits) {
-                return unused_empty(image, state);
-            }
-        }
-    }
-    false
+    let s = &state;
+    all_below(image::node_count(image), |i| good_place(image, s, i))
+        && all_below(image::var_count(image), |v| {
+            has_kind(image::var_kind(image, v), &s.vartags, &s.varbits, v)
+        })
+        && all_below(image::look_count(image), |l| {
+            has_kind(image::look_kind(image, l), &s.looktags, &s.lookbits, l)
+        })
+        && unused_empty(image, s)
 }

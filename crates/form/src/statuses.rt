@@ -2,30 +2,20 @@
 ghost use Rattle.std.specs.Prelude.{◌≡◌};
 ghost use Rattle.plexil.specs.Form.{is_idle, allowed, of_type, is_awaiting};
 
-use places::same;
 use plexil::Status;
 
 // "Inactive, Waiting or Finished"
 fn is_idle(c: Status) -> bool
     ensures { result ≡ is_idle c }
 {
-    if same(c, Status::Inactive) {
-        return true;
-    }
-    if same(c, Status::Waiting) {
-        return true;
-    }
-    same(c, Status::Finished)
+    matches!(c, Status::Inactive | Status::Waiting | Status::Finished)
 }
 
 // Executing or Failing: a node that may await a return
 pub fn is_awaiting(c: Status) -> bool
     ensures { result ≡ is_awaiting c }
 {
-    if same(c, Status::Executing) {
-        return true;
-    }
-    same(c, Status::Failing)
+    matches!(c, Status::Executing | Status::Failing)
 }
 
 // c may stand under a parent of status u.
@@ -33,13 +23,9 @@ pub(crate) fn allowed(u: Status, c: Status) -> bool
     ensures { result ≡ allowed u c }
 {
     match u {
-        Status::Inactive => is_idle(c),
-        Status::Waiting => is_idle(c),
         Status::Executing => true,
-        Status::Finishing => !same(c, Status::Inactive),
-        Status::Failing => !same(c, Status::Inactive),
-        Status::IterationEnded => is_idle(c),
-        Status::Finished => is_idle(c),
+        Status::Finishing | Status::Failing => !matches!(c, Status::Inactive),
+        _ => is_idle(c),
     }
 }
 
@@ -49,11 +35,8 @@ pub(crate) fn of_type(image: &[u8], i: u16, c: Status) -> bool
 {
     match c {
         Status::Inactive => 0 < i,
-        Status::Waiting => true,
-        Status::Executing => true,
         Status::Finishing => image::node_type(image, i) == 0,
         Status::Failing => image::node_type(image, i) != 2,
-        Status::IterationEnded => true,
-        Status::Finished => true,
+        _ => true,
     }
 }

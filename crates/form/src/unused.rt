@@ -1,71 +1,37 @@
 // "unused places hold 0 or Unknown"
-ghost use Rattle.std.specs.Prelude.{◌≡◌, [], ◌∷◌};
-ghost use Rattle.plexil.specs.Lists.{every};
+ghost use Rattle.std.specs.Prelude.{◌≡◌, drop, [], ◌∷◌};
+ghost use Rattle.plexil.specs.Lists.{all_in, every};
 ghost use Rattle.plexil.specs.Form.{zero_from, unused_empty};
 
 use plexil::State;
 
-fn zero_from(places: &[u8], n: u16) -> bool
-    ensures { result ≡ zero_from n places.now }
+// Each place from n on holds zero.
+fn zero_from<T: Copy + PartialEq>(places: &[T], n: u16, zero: T) -> bool
+    ensures { result ≡ all_in (λ x. T.eq x zero) (drop n places.now) }
 {
-    let mut k = n as usize;
-    while k < places.len() {
-        if places[k] != 0 {
-            return false;
-        }
-        k += 1;
-    }
-    true
+    places.iter().skip(n as usize).all(|x| *x == zero)
 }
 
-fn zero_bits_from(bits: &[u64], n: u16) -> bool
-    ensures { result ≡ zero_from n bits.now }
+fn nodes_empty(n: u16, state: &State) -> bool
+    ensures { result ≡ every (zero_from n state.now.status ∷ zero_from n state.now.outcome ∷ zero_from n state.now.failure ∷ zero_from n state.now.mark ∷ []) }
 {
-    let mut j = n as usize;
-    while j < bits.len() {
-        if bits[j] != 0 {
-            return false;
-        }
-        j += 1;
-    }
-    true
+    zero_from(&state.status, n, 0)
+        && zero_from(&state.outcome, n, 0)
+        && zero_from(&state.failure, n, 0)
+        && zero_from(&state.mark, n, 0)
 }
 
-fn nodes_empty<'a>(n: u16, st: &'a [u8], oc: &'a [u8], fl: &'a [u8], mk: &'a [u8]) -> bool
-    ensures { result ≡ every (zero_from n st.now ∷ zero_from n oc.now ∷ zero_from n fl.now ∷ zero_from n mk.now ∷ []) }
-{
-    if zero_from(st, n) {
-        if zero_from(oc, n) {
-            if zero_from(fl, n) {
-                return zero_from(mk, n);
-            }
-        }
-    }
-    false
-}
-
-fn cells_empty<'a>(n: u16, tags: &'a [u8], bits: &'a [u64]) -> bool
+// The cells of variables or of lookups.
+fn cells_empty(n: u16, tags: &[u8], bits: &[u64]) -> bool
     ensures { result ≡ every (zero_from n tags.now ∷ zero_from n bits.now ∷ []) }
 {
-    if zero_from(tags, n) {
-        return zero_bits_from(bits, n);
-    }
-    false
+    zero_from(tags, n, 0) && zero_from(bits, n, 0)
 }
 
-pub(crate) fn unused_empty(image: &[u8], state: State) -> bool
-    ensures { result ≡ unused_empty image.now state }
+pub(crate) fn unused_empty(image: &[u8], state: &State) -> bool
+    ensures { result ≡ unused_empty image.now state.now }
 {
-    if nodes_empty(
-        image::node_count(image),
-        &state.status,
-        &state.outcome,
-        &state.failure,
-        &state.mark,
-    ) {
-        if cells_empty(image::var_count(image), &state.vartags, &state.varbits) {
-            return cells_empty(image::look_count(image), &state.looktags, &state.lookbits);
-        }
-    }
-    false
+    nodes_empty(image::node_count(image), state)
+        && cells_empty(image::var_count(image), &state.vartags, &state.varbits)
+        && cells_empty(image::look_count(image), &state.looktags, &state.lookbits)
 }

@@ -1,3 +1,1 @@
-pub mod NodeLaws
-pub mod EntryLaws
 pub mod OneReply

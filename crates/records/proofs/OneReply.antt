@@ -1,18 +1,19 @@
 -- A search's contract permits one reply.
+use Prim.Native.Nat.{ℕ}
 use mathlib.Core.Path.{◌≡◌, refl, sym, ap, ◌∙◌}
-use Rattle.records.specs.declared.found.Found.{Found}
-use Rattle.records.specs.declared.found.Found.TheVariants as code
-use Rattle.plexil.specs.Lists as plan
-use Rattle.records.specs.Broken.{found_of, OneFound}
+use Rattle.std.specs.Prelude.{Option, Some, None}
+use Rattle.plexil.specs.Lists.{Found, at, nowhere}
+use Rattle.plexil.specs.Searches.{found_of}
+use Rattle.records.specs.Broken.{OneFound}
 
-back : plan.Found → Found
-back (plan.at i) = code.At i
-back plan.nowhere = code.Nowhere
+back : Found → Option ℕ
+back (at i) = Some i
+back nowhere = None
 
-back_is : (a : Found) → back (found_of a) ≡ a
+back_is : (a : Option ℕ) → back (found_of a) ≡ a
 unfolding back
-back_is (code.At i) = refl
-back_is code.Nowhere = refl
+back_is (Some i) = refl
+back_is None = refl
 
 pub one_found : OneFound
 one_found r p a b e f = sym (back_is a) ∙ ap back (e ∙ sym f) ∙ back_is b

@@ -1,26 +1,19 @@
-// "Skip, Start, Pre, Inv, End, Post, Repeat": one test for each condition.
-ghost use Rattle.std.specs.Prelude.{◌≡◌, false, [], ◌∷◌};
-ghost use Rattle.plexil.specs.Lists.{when◌then◌else◌, every};
+// "Skip, Start, Pre, Inv, End, Post, Repeat": one test of each condition.
+ghost use Rattle.std.specs.Prelude.{◌≡◌, Bool};
+ghost use Rattle.plexil.specs.declared.Condition.{Condition};
+ghost use Rattle.plexil.specs.Records.{all_conditions};
 
-fn both(a: bool, b: bool) -> bool
-    ensures { result ≡ (when a then b else false) }
-{
-    if a { b } else { false }
-}
+use plexil::Condition;
 
-pub fn all_conditions(
-    skip: bool,
-    start: bool,
-    pre: bool,
-    inv: bool,
-    end: bool,
-    post: bool,
-    repeat: bool,
-) -> bool
-    ensures { result ≡ every (skip ∷ start ∷ pre ∷ inv ∷ end ∷ post ∷ repeat ∷ []) }
+pub fn all_conditions<F: Fn(Condition) -> bool>(test: F) -> bool
+    requires { (c : Condition) → F.pre test c }
+    ensures { (f : Condition → Bool) → ((c : Condition) (r : Bool) → F.post test c r → r ≡ f c) → result ≡ all_conditions f }
 {
-    both(
-        skip,
-        both(start, both(pre, both(inv, both(end, both(post, repeat))))),
-    )
+    test(Condition::Skip)
+        && test(Condition::Start)
+        && test(Condition::Pre)
+        && test(Condition::Inv)
+        && test(Condition::End)
+        && test(Condition::Post)
+        && test(Condition::Repeat)
 }

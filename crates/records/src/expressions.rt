@@ -3,40 +3,34 @@ ghost use Rattle.std.specs.Prelude.{◌≡◌};
 ghost use Rattle.plexil.specs.declared.Rule.TheVariants as rule;
 ghost use Rattle.plexil.specs.Expressions.{constant_op, not_op, lt_op, add_op, operator_at};
 ghost use Rattle.plexil.specs.Records.{good_leaf, good_binary, good_operator, good_expression};
-ghost use Rattle.records.specs.Broken.{found_of, lowest_broken};
+ghost use Rattle.plexil.specs.Searches.{found_of};
+ghost use Rattle.records.specs.Broken.{lowest_broken};
 
-use crate::found::Found;
 use crate::operands::{asks, operand, reads, takes};
 use crate::variables::good_constant;
+use plexil::first;
 
 // "0 constant (b = 1 known, b = 0 Unknown with constant 0)"
 fn good_constant_entry(image: &[u8], e: u16) -> bool
     ensures { result ≡ good_leaf constant_op image.now e }
 {
-    if image::operand_a(image, e) != 0 {
-        return false;
-    }
-    good_constant(
-        image::result_kind(image, e),
-        image::operand_b(image, e),
-        image::constant(image, e),
-    )
+    let known = image::operand_b(image, e);
+    image::operand_a(image, e) == 0
+        && good_constant(
+            image::result_kind(image, e),
+            known,
+            image::constant(image, e),
+        )
 }
 
 // "6 NOT a"
 fn good_not(image: &[u8], e: u16) -> bool
     ensures { result ≡ good_operator not_op image.now e }
 {
-    if image::operand_b(image, e) != 0 {
-        return false;
-    }
-    if image::result_kind(image, e) != 0 {
-        return false;
-    }
-    if image::constant(image, e) != 0 {
-        return false;
-    }
     operand(image, e, image::operand_a(image, e), 0)
+        && image::operand_b(image, e) == 0
+        && image::result_kind(image, e) == 0
+        && image::constant(image, e) == 0
 }
 
 // "10 to 14 take two Int or two Real", LT and LE give Bool
@@ -44,10 +38,7 @@ fn compares(image: &[u8], e: u16) -> bool
     ensures { result ≡ good_binary lt_op image.now e }
 {
     let kind = image::result_kind(image, image::operand_a(image, e));
-    if kind == 0 {
-        return false;
-    }
-    takes(image, e, kind, 0)
+    kind != 0 && takes(image, e, kind, 0)
 }
 
 // "12 to 14 keep that kind"
@@ -55,12 +46,10 @@ fn computes(image: &[u8], e: u16) -> bool
     ensures { result ≡ good_binary add_op image.now e }
 {
     let kind = image::result_kind(image, image::operand_a(image, e));
-    if kind == 0 {
-        return false;
-    }
-    takes(image, e, kind, kind)
+    kind != 0 && takes(image, e, kind, kind)
 }
 
+#[tactic(auto, unfolding(plexil::specs::Lists::opened, plexil::specs::Expressions::opened, plexil::specs::Records::opened))]
 fn good_operator(image: &[u8], e: u16) -> bool
     ensures { result ≡ good_operator (operator_at image.now e) image.now e }
 {
@@ -78,14 +67,10 @@ fn good_operator(image: &[u8], e: u16) -> bool
         4 => asks(image, e, 4),
         5 => asks(image, e, 6),
         6 => good_not(image, e),
-        7 => takes(image, e, 0, 0),
-        8 => takes(image, e, 0, 0),
+        7 | 8 => takes(image, e, 0, 0),
         9 => takes(image, e, image::result_kind(image, a), 0),
-        10 => compares(image, e),
-        11 => compares(image, e),
-        12 => computes(image, e),
-        13 => computes(image, e),
-        14 => computes(image, e),
+        10 | 11 => compares(image, e),
+        12..=14 => computes(image, e),
         _ => false,
     }
 }
@@ -93,24 +78,12 @@ fn good_operator(image: &[u8], e: u16) -> bool
 fn good_expression(image: &[u8], e: u16) -> bool
     ensures { result ≡ good_expression image.now e }
 {
-    if image::expr_spare(image, e) != 0 {
-        return false;
-    }
-    good_operator(image, e)
+    image::expr_spare(image, e) == 0 && good_operator(image, e)
 }
 
 // "9 Expression: operator, spare, operand, kind or constant wrong"
-pub fn broken_expression(image: &[u8]) -> Found
+pub fn broken_expression(image: &[u8]) -> Option<u16>
     ensures { found_of result ≡ lowest_broken rule.Expression image.now }
 {
-    let n = image::expr_count(image);
-    let mut i = 0;
-    while i < n {
-        if good_expression(image, i) {
-            i += 1;
-        } else {
-            return Found::At(i);
-        }
-    }
-    Found::Nowhere
+    first(image::expr_count(image), |e| !good_expression(image, e))
 }

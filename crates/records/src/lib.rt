@@ -1,9 +1,8 @@
 // Refusals 1 to 9: the header, the tree of nodes, and each record by itself.
-#![tactic(auto)]
+#![tactic(auto, unfolding(plexil::specs::Lists::opened, plexil::specs::Records::opened, plexil::specs::Check::opened))]
 
 mod conditions;
 mod expressions;
-mod found;
 mod header;
 mod nodes;
 mod operands;
@@ -11,7 +10,6 @@ mod variables;
 
 pub use conditions::all_conditions;
 pub use expressions::broken_expression;
-pub use found::Found;
 pub use header::{broken_count, broken_edition, broken_layout, broken_short};
 pub use nodes::{broken_node, broken_tree};
 pub use variables::{broken_lookup, broken_variable};

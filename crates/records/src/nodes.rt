@@ -4,11 +4,11 @@ ghost use Rattle.plexil.specs.declared.Rule.TheVariants as rule;
 ghost use Rattle.plexil.specs.Lists.{every};
 ghost use Rattle.plexil.specs.Image.{default, var_count, expr_count, what, value_field};
 ghost use Rattle.plexil.specs.Records.{good_parent, good_condition, good_what, good_node, all_conditions};
-ghost use Rattle.records.specs.Broken.{found_of, lowest_broken};
+ghost use Rattle.plexil.specs.Searches.{found_of};
+ghost use Rattle.records.specs.Broken.{lowest_broken};
 
 use crate::conditions::all_conditions;
-use crate::found::Found;
-use plexil::Condition;
+use plexil::{Condition, first};
 
 // "Node 0 has parent 65535; any other parent is a list with a lower number"
 fn good_parent(image: &[u8], i: u16) -> bool
@@ -18,26 +18,14 @@ fn good_parent(image: &[u8], i: u16) -> bool
     if i == 0 {
         return up == 65535;
     }
-    if up >= i {
-        return false;
-    }
-    image::node_type(image, up) == 0
+    up < i && image::node_type(image, up) == 0
 }
 
 // "5 Tree: parent wrong"
-pub fn broken_tree(image: &[u8]) -> Found
+pub fn broken_tree(image: &[u8]) -> Option<u16>
     ensures { found_of result ≡ lowest_broken rule.Tree image.now }
 {
-    let n = image::node_count(image);
-    let mut i = 0;
-    while i < n {
-        if good_parent(image, i) {
-            i += 1;
-        } else {
-            return Found::At(i);
-        }
-    }
-    Found::Nowhere
+    first(image::node_count(image), |i| !good_parent(image, i))
 }
 
 // "expression, or 65535 for default"
@@ -45,54 +33,37 @@ fn good_condition(image: &[u8], i: u16, c: Condition) -> bool
     ensures { result ≡ good_condition image.now i c }
 {
     let e = image::condition_field(image, i, c);
-    if e == 65535 {
-        return true;
-    }
-    e < image::expr_count(image)
+    e == 65535 || e < image::expr_count(image)
 }
 
+// The definition all_conditions stays closed here, as all_conditions' own clause has it.
+#[tactic(auto)]
 fn good_conditions(image: &[u8], i: u16) -> bool
     ensures { result ≡ all_conditions (good_condition image.now i) }
 {
-    all_conditions(
-        good_condition(image, i, Condition::Skip),
-        good_condition(image, i, Condition::Start),
-        good_condition(image, i, Condition::Pre),
-        good_condition(image, i, Condition::Inv),
-        good_condition(image, i, Condition::End),
-        good_condition(image, i, Condition::Post),
-        good_condition(image, i, Condition::Repeat),
-    )
+    all_conditions(|c| good_condition(image, i, c))
 }
 
 // "list: 65535", and no value
 fn good_list(image: &[u8], i: u16) -> bool
     ensures { result ≡ every (eqb (what image.now i) default ∷ eqb (value_field image.now i) default ∷ []) }
 {
-    if image::what(image, i) != 65535 {
-        return false;
-    }
-    image::value_field(image, i) == 65535
+    image::what(image, i) == 65535 && image::value_field(image, i) == 65535
 }
 
 // "command: command number 0..65534", and no value
 fn good_command(image: &[u8], i: u16) -> bool
     ensures { result ≡ every (ltb (what image.now i) default ∷ eqb (value_field image.now i) default ∷ []) }
 {
-    if image::what(image, i) >= 65535 {
-        return false;
-    }
-    image::value_field(image, i) == 65535
+    image::what(image, i) < 65535 && image::value_field(image, i) == 65535
 }
 
 // "assignment: variable", and "assignment: expression"
 fn good_assignment(image: &[u8], i: u16) -> bool
     ensures { result ≡ every (ltb (what image.now i) (var_count image.now) ∷ ltb (value_field image.now i) (expr_count image.now) ∷ []) }
 {
-    if image::what(image, i) >= image::var_count(image) {
-        return false;
-    }
-    image::value_field(image, i) < image::expr_count(image)
+    image::what(image, i) < image::var_count(image)
+        && image::value_field(image, i) < image::expr_count(image)
 }
 
 // "0 list, 1 command, 2 assignment"
@@ -110,28 +81,12 @@ fn good_what(image: &[u8], i: u16) -> bool
 fn good_node(image: &[u8], i: u16) -> bool
     ensures { result ≡ good_node image.now i }
 {
-    if image::node_spare(image, i) != 0 {
-        return false;
-    }
-    if good_what(image, i) {
-        good_conditions(image, i)
-    } else {
-        false
-    }
+    image::node_spare(image, i) == 0 && good_what(image, i) && good_conditions(image, i)
 }
 
 // "6 Node: type, spare or field wrong"
-pub fn broken_node(image: &[u8]) -> Found
+pub fn broken_node(image: &[u8]) -> Option<u16>
     ensures { found_of result ≡ lowest_broken rule.Node image.now }
 {
-    let n = image::node_count(image);
-    let mut i = 0;
-    while i < n {
-        if good_node(image, i) {
-            i += 1;
-        } else {
-            return Found::At(i);
-        }
-    }
-    Found::Nowhere
+    first(image::node_count(image), |i| !good_node(image, i))
 }

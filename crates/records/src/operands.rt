@@ -6,57 +6,35 @@ ghost use Rattle.plexil.specs.Records.{operand, reads, asks, takes};
 pub fn operand(image: &[u8], e: u16, a: u16, kind: u8) -> bool
     ensures { result ≡ operand image.now e a kind }
 {
-    if a >= e {
-        return false;
-    }
-    image::result_kind(image, a) == kind
+    a < e && image::result_kind(image, a) == kind
 }
 
 // A leaf of the kind that reads entry a of n.
 pub fn reads(image: &[u8], e: u16, n: u16, kind: u8) -> bool
     ensures { result ≡ reads image.now e n kind }
 {
-    if image::operand_a(image, e) >= n {
-        return false;
-    }
-    if image::operand_b(image, e) != 0 {
-        return false;
-    }
-    if image::result_kind(image, e) != kind {
-        return false;
-    }
-    image::constant(image, e) == 0
+    image::operand_a(image, e) < n
+        && image::operand_b(image, e) == 0
+        && image::result_kind(image, e) == kind
+        && image::constant(image, e) == 0
 }
 
 // "In 3 to 5, b is a code listed below": below n.
 pub fn asks(image: &[u8], e: u16, n: u16) -> bool
     ensures { result ≡ asks image.now e n }
 {
-    if image::operand_a(image, e) >= image::node_count(image) {
-        return false;
-    }
-    if image::operand_b(image, e) >= n {
-        return false;
-    }
-    if image::result_kind(image, e) != 0 {
-        return false;
-    }
-    image::constant(image, e) == 0
+    image::operand_a(image, e) < image::node_count(image)
+        && image::operand_b(image, e) < n
+        && image::result_kind(image, e) == 0
+        && image::constant(image, e) == 0
 }
 
 // Both operands of the kind, the entry itself of kind r.
 pub fn takes(image: &[u8], e: u16, kind: u8, r: u8) -> bool
     ensures { result ≡ takes image.now e kind r }
 {
-    if image::result_kind(image, e) != r {
-        return false;
-    }
-    if image::constant(image, e) != 0 {
-        return false;
-    }
-    if operand(image, e, image::operand_a(image, e), kind) {
-        operand(image, e, image::operand_b(image, e), kind)
-    } else {
-        false
-    }
+    operand(image, e, image::operand_a(image, e), kind)
+        && operand(image, e, image::operand_b(image, e), kind)
+        && image::result_kind(image, e) == r
+        && image::constant(image, e) == 0
 }

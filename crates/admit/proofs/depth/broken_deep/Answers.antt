@@ -1,6 +1,5 @@
 -- The lowest record that breaks rule 10.
 use mathlib.Core.Path.{ap, refl, ◌∙◌}
-use borrow.Author.Rules.{rules}
 use native.Mathlib.Omega.{arith}
 use borrow.Author.Tests.{le-leb, lt-leb}
 use mathlib.Core.Bool.{not}
@@ -17,35 +16,23 @@ loop-i-init c = (upto-start _ _, filled-start _ _ refl)
 
 pub depth-d-requires : goal.depth-d-requires
 unfolding records breaks rule_on shallow
-depth-d-requires c = record { passed = c.requires; e_bound = rw c.expr_count-n.ensures at c.loop-i-test.true; filled = c.loop-i.invariant.1 }
+depth-d-requires c = record { passed = c.requires; e_bound = rw c.expr_count-i-end.ensures at c.loop-i-test.true; filled = c.loop-i.invariant.1 }
 
 pub returns-then-d-gt12 : goal.returns-then-d-gt12
 unfolding records breaks rule_on shallow
-returns-then-d-gt12 c = upto-found c.loop-i.invariant.0 c.expr_count-n.ensures c.loop-i-test.true (ap not (c.depth-d.ensures 12 ∙ lt-leb _ _ c.if-d-gt12.true))
-
-pub overflow_cast-depths : goal.overflow_cast-depths
-unfolding records breaks rule_on shallow
-overflow_cast-depths c = search rules
+returns-then-d-gt12 c = upto-found c.loop-i.invariant.0 c.expr_count-i-end.ensures c.loop-i-test.true (ap not (c.depth-d.ensures 12 ∙ lt-leb _ _ c.if-d-gt12.true))
 
 pub bounds-depths-i : goal.bounds-depths-i
 unfolding records breaks rule_on shallow
-bounds-depths-i c = omega (arith, few _ c.requires, c.expr_count-n.ensures, c.loop-i-test.true)
-
-pub overflow_add-i : goal.overflow_add-i
-unfolding records breaks rule_on shallow
-overflow_add-i c = omega arith
-
-pub loop-i-smaller : goal.loop-i-smaller
-unfolding records breaks rule_on shallow
-loop-i-smaller c = omega arith
+bounds-depths-i c = omega (arith, few _ c.requires, c.expr_count-i-end.ensures, c.loop-i-test.true)
 
 pub loop-i-preserved : goal.loop-i-preserved
 unfolding records breaks rule_on shallow
 loop-i-preserved c = (
-  upto_next c.loop-i.invariant.0 c.expr_count-n.ensures c.loop-i-test.true (ap not (c.depth-d.ensures 12 ∙ le-leb _ _ c.if-d-gt12.false)),
-  filled_next _ _ _ _ c.loop-i.invariant.1 (omega (arith, few _ c.requires, c.expr_count-n.ensures, c.loop-i-test.true)) c.depth-d.ensures c.if-d-gt12.false,
+  upto_next c.loop-i.invariant.0 c.expr_count-i-end.ensures c.loop-i-test.true (ap not (c.depth-d.ensures 12 ∙ le-leb _ _ c.if-d-gt12.false)),
+  filled_next _ _ _ _ c.loop-i.invariant.1 (omega (arith, few _ c.requires, c.expr_count-i-end.ensures, c.loop-i-test.true)) c.depth-d.ensures c.if-d-gt12.false,
 )
 
 pub returns : goal.returns
 unfolding records breaks rule_on shallow
-returns c = upto-end c.loop-i.invariant.0 c.expr_count-n.ensures c.loop-i-test.false
+returns c = upto-end c.loop-i.invariant.0 c.expr_count-i-end.ensures c.loop-i-test.false

@@ -1,5 +1,4 @@
 -- The lowest record that breaks rule 10.
-use Prim.Native.Nat.{◌-◌}
 use Rattle.plexil.specs.declared.Rule.TheVariants as rule
 use Rattle.admit.specs.Depth.{Filled}
 use Rattle.plexil.specs.Check.{records, breaks}
@@ -8,6 +7,3 @@ use Rattle.admit.proofs.depth.broken_deep.Given as goal
 
 abbrev pub invariant-loop-i : goal.invariant-loop-i
 invariant-loop-i l = Upto (breaks rule.Deep l.image) (records rule.Deep l.image) l.i × Filled l.image l.i l.depths
-
-abbrev pub decreases-loop-i : goal.decreases-loop-i
-decreases-loop-i l = l.n - l.i

@@ -12,22 +12,16 @@ owned-all : (p : Image) (n e : ℕ) (t : List ℕ) → n ≡ expr_count p → e 
 owned-all p n e t h g o = subst (λ (k : ℕ). Owned p k t) (g ∙ h) o
 
 pub loop-e-init : goal.loop-e-init
-loop-e-init c = (omega arith, owned-start _ 0 0 _ refl)
+loop-e-init c = owned-start _ 0 0 _ refl
 
 pub asked-o-requires : goal.asked-o-requires
-asked-o-requires c = record { ordered = c.requires; e_bound = rw c.expr_count-n.ensures at c.loop-e-test.true; owned = c.loop-e.invariant.1 }
+asked-o-requires c = record { ordered = c.requires; e_bound = rw c.expr_count-e-end.ensures at c.loop-e-test.true; owned = c.loop-e.invariant }
 
 pub bounds-owners-e : goal.bounds-owners-e
-bounds-owners-e c = omega (arith, few-entries _ c.requires, c.expr_count-n.ensures, c.loop-e-test.true)
-
-pub overflow_add-e : goal.overflow_add-e
-overflow_add-e c = omega arith
-
-pub loop-e-smaller : goal.loop-e-smaller
-loop-e-smaller c = omega arith
+bounds-owners-e c = omega (arith, few-entries _ c.requires, c.expr_count-e-end.ensures, c.loop-e-test.true)
 
 pub loop-e-preserved : goal.loop-e-preserved
-loop-e-preserved c = (omega arith, owned-next _ _ _ _ c.loop-e.invariant.1 (omega (arith, few-entries _ c.requires, c.expr_count-n.ensures, c.loop-e-test.true)) c.asked-o.ensures.asked c.asked-o.ensures.asks)
+loop-e-preserved c = owned-next _ _ _ _ c.loop-e.invariant (omega (arith, few-entries _ c.requires, c.expr_count-e-end.ensures, c.loop-e-test.true)) c.asked-o.ensures.asked c.asked-o.ensures.asks
 
 pub returns : goal.returns
-returns c = owned-all _ _ _ _ c.expr_count-n.ensures (omega arith) c.loop-e.invariant.1
+returns c = owned-all _ _ _ _ c.expr_count-e-end.ensures (omega arith) c.loop-e.invariant

@@ -1,26 +1,14 @@
--- Places before k hold 0.
-use mathlib.Core.Path.{refl}
-use native.Mathlib.Omega.{arith}
-use Rattle.form.proofs.Laws.{zero-next, zero-stop, zero-end}
+-- Place after place, from n on.
+use Rattle.std.proofs.Common.{rules, ◌∙◌}
+use borrow.Author.Tests.{tests}
+use Rattle.std.proofs.lemmas.Iterator.{YieldsList-from_slice}
+use Rattle.std.proofs.lemmas.Iterator.Adapters.{YieldsList-from_skip}
+use Rattle.std.proofs.lemmas.Iterator.Search.{all_from_yields_List}
+use Rattle.form.proofs.Places.{each-in}
 use Rattle.form.proofs.unused.zero_from.Goals as goal
 
-pub loop-k-init : goal.loop-k-init
-loop-k-init c = refl
-
-pub bounds-places-k : goal.bounds-places-k
-bounds-places-k c = omega arith
-
-pub returns-then-places-k-ne0 : goal.returns-then-places-k-ne0
-returns-then-places-k-ne0 c = zero-stop _ _ _ c.loop-k.invariant c.loop-k-test.true c.if-places-k-ne0.true
-
-pub overflow_add-k : goal.overflow_add-k
-overflow_add-k c = omega arith
-
-pub loop-k-smaller : goal.loop-k-smaller
-loop-k-smaller c = omega arith
-
-pub loop-k-preserved : goal.loop-k-preserved
-loop-k-preserved c = zero-next _ _ _ c.loop-k.invariant c.loop-k-test.true c.if-places-k-ne0.false
-
 pub returns : goal.returns
-returns c = zero-end _ _ _ c.loop-k.invariant c.loop-k-test.false
+returns g c =
+    all_from_yields_List (λ x. g.T.PartialEq.eq x c.args.zero) _ _ _ c.all.ensures.ran
+    (YieldsList-from_skip _ (YieldsList-from_slice c.args.places.now cc) cc) (λ x b q k. search (rules, tests))
+    ∙ each-in _ _
