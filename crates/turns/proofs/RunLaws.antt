@@ -24,65 +24,68 @@ use Rattle.plexil.proofs.PutLaws.{length-put}
 use Rattle.plexil.proofs.RunCourse.{run-quiet, run-spent, run-no-room, run_on}
 use Rattle.plexil.proofs.StepKept.{step_kept}
 use Rattle.micro.specs.declared.steps.Stepped.{Stepped}
-use Rattle.micro.specs.declared.steps.StepEnd.{StepEnd}
-use Rattle.micro.specs.declared.steps.StepEnd.TheVariants.{Quiet, NoRoom, Done}
+use Rattle.micro.specs.declared.steps.Stepped.TheVariants.{Quiet, NoRoom, Done}
 use Rattle.micro.specs.Stepped.{stepped_of, part_after}
 use Rattle.turns.specs.Ended.{ran_to}
 
 -- ---- how a step ended
-data Stepping (p : Image) (s : State) (part : List ℕ) (r : Stepped) (l : List ℕ) : Type 0 where
-  quietly : quiet p s ≡ true → r ≡ record { end = Quiet; words = 0; state = s } → l ≡ part → Stepping p s part r l
-  crowded : quiet p s ≡ false → leb (length (words p s)) (length part) ≡ false → r ≡ record { end = NoRoom; words = 0; state = s } → l ≡ part → Stepping p s part r l
-  stepped : quiet p s ≡ false → leb (length (words p s)) (length part) ≡ true → r ≡ record { end = Done; words = length (words p s); state = step p s }
-      → l ≡ put part 0 (words p s) → Stepping p s part r l
+-- what a step did, and the state then; s where it did nothing
+done_of : Stepped → State → ℕ × State
+done_of Quiet s = (0, s)
+done_of NoRoom s = (0, s)
+done_of (Done n t) s = (n, t)
 
-stepping : (p : Image) (s : State) (part : List ℕ) {r : Stepped} {l : List ℕ} → r ≡ stepped_of p s part → l ≡ part_after p s part → Stepping p s part r l
-unfolding stepped_of part_after
-stepping p s part {r} {l} e h = by (quiet p s) refl (leb (length (words p s)) (length part)) refl
-  where
-    by : (q : Bool) → quiet p s ≡ q → (f : Bool) → leb (length (words p s)) (length part) ≡ f → Stepping p s part r l
-    by true q f g = quietly q (e ∙ if-true _ _ _ q) (h ∙ if-true _ _ _ q)
-    by false q false g = crowded q g (e ∙ (if-false _ _ _ q ∙ if-false _ _ _ g)) (h ∙ (if-false _ _ _ q ∙ if-false _ _ _ g))
-    by false q true g = stepped q g (e ∙ (if-false _ _ _ q ∙ if-true _ _ _ g)) (h ∙ (if-false _ _ _ q ∙ if-true _ _ _ g))
+code_of : Stepped → ℕ
+code_of Quiet = 0
+code_of NoRoom = 1
+code_of (Done n t) = 2
 
-end_of : (r : Stepped) (e : StepEnd) (n : ℕ) (s : State) → r ≡ record { end = e; words = n; state = s } → r.end ≡ e
-end_of r e n s h = ap (λ (x : Stepped). x.end) h
-
-not-quiet-done : (e : StepEnd) → e ≡ Quiet → e ≡ Done → ⊥
-not-quiet-done e a b = let z : ◌≡◌ {A = ℕ} 0 1 = cc in omega arith
-
-not-room-done : (e : StepEnd) → e ≡ NoRoom → e ≡ Done → ⊥
-not-room-done e a b = let z : ◌≡◌ {A = ℕ} 0 1 = cc in omega arith
-
-not-quiet-room : (e : StepEnd) → e ≡ Quiet → e ≡ NoRoom → ⊥
-not-quiet-room e a b = let z : ◌≡◌ {A = ℕ} 0 1 = cc in omega arith
+other : {r a b : Stepped} → r ≡ a → r ≡ b → (code_of a ≡ code_of b → ⊥) → ⊥
+other h g f = f (ap code_of (sym h ∙ g))
 
 module _ (p : Image) (s : State) (part : List ℕ) {r : Stepped} {l : List ℕ} (e : r ≡ stepped_of p s part) (h : l ≡ part_after p s part) where
-  pub ended-quiet : r.end ≡ Quiet → (quiet p s ≡ true) × (l ≡ part)
-  ended-quiet a = by (stepping p s part e h)
-    where
-      by : Stepping p s part r l → (quiet p s ≡ true) × (l ≡ part)
-      by (quietly q g m) = (q, m)
-      by (crowded q f g m) = absurd (not-quiet-room r.end a (end_of r _ _ _ g))
-      by (stepped q f g m) = absurd (not-quiet-done r.end a (end_of r _ _ _ g))
+  quiet-ends : quiet p s ≡ true → (r ≡ Quiet) × (l ≡ part)
+  unfolding stepped_of part_after
+  quiet-ends q = (e ∙ if-true _ _ _ q, h ∙ if-true _ _ _ q)
 
-  pub ended-crowded : r.end ≡ NoRoom → (quiet p s ≡ false) × (leb (length (words p s)) (length part) ≡ false) × (l ≡ part)
-  ended-crowded a = by (stepping p s part e h)
-    where
-      by : Stepping p s part r l → (quiet p s ≡ false) × (leb (length (words p s)) (length part) ≡ false) × (l ≡ part)
-      by (quietly q g m) = absurd (not-quiet-room r.end (end_of r _ _ _ g) a)
-      by (crowded q f g m) = (q, f, m)
-      by (stepped q f g m) = absurd (not-room-done r.end a (end_of r _ _ _ g))
+  crowded-ends : quiet p s ≡ false → leb (length (words p s)) (length part) ≡ false → (r ≡ NoRoom) × (l ≡ part)
+  unfolding stepped_of part_after
+  crowded-ends q f = (e ∙ (if-false _ _ _ q ∙ if-false _ _ _ f), h ∙ (if-false _ _ _ q ∙ if-false _ _ _ f))
 
-  pub ended-done : r.end ≡ Done
-      → (quiet p s ≡ false) × (leb (length (words p s)) (length part) ≡ true) × (r.words ≡ length (words p s)) × (r.state ≡ step p s) × (l ≡ put part 0 (words p s))
-  ended-done a = by (stepping p s part e h)
+  done-ends : quiet p s ≡ false → leb (length (words p s)) (length part) ≡ true → (r ≡ Done (length (words p s)) (step p s)) × (l ≡ put part 0 (words p s))
+  unfolding stepped_of part_after
+  done-ends q f = (e ∙ (if-false _ _ _ q ∙ if-true _ _ _ f), h ∙ (if-false _ _ _ q ∙ if-true _ _ _ f))
+
+  pub ended-quiet : r ≡ Quiet → (quiet p s ≡ true) × (l ≡ part)
+  unfolding code_of
+  ended-quiet a = by (quiet p s) refl (leb (length (words p s)) (length part)) refl
     where
-      by : Stepping p s part r l
-          → (quiet p s ≡ false) × (leb (length (words p s)) (length part) ≡ true) × (r.words ≡ length (words p s)) × (r.state ≡ step p s) × (l ≡ put part 0 (words p s))
-      by (quietly q g m) = absurd (not-quiet-done r.end (end_of r _ _ _ g) a)
-      by (crowded q f g m) = absurd (not-room-done r.end (end_of r _ _ _ g) a)
-      by (stepped q f g m) = (q, f, ap (λ (x : Stepped). x.words) g, ap (λ (x : Stepped). x.state) g, m)
+      by : (q : Bool) → quiet p s ≡ q → (f : Bool) → leb (length (words p s)) (length part) ≡ f → (quiet p s ≡ true) × (l ≡ part)
+      by true q f g = (q, (quiet-ends q).1)
+      by false q false g = absurd (other a (crowded-ends q g).0 (λ z. omega arith))
+      by false q true g = absurd (other a (done-ends q g).0 (λ z. omega arith))
+
+  pub ended-crowded : r ≡ NoRoom → (quiet p s ≡ false) × (leb (length (words p s)) (length part) ≡ false) × (l ≡ part)
+  unfolding code_of
+  ended-crowded a = by (quiet p s) refl (leb (length (words p s)) (length part)) refl
+    where
+      by : (q : Bool) → quiet p s ≡ q → (f : Bool) → leb (length (words p s)) (length part) ≡ f → (quiet p s ≡ false) × (leb (length (words p s)) (length part) ≡ false) × (l ≡ part)
+      by true q f g = absurd (other a (quiet-ends q).0 (λ z. omega arith))
+      by false q false g = (q, g, (crowded-ends q g).1)
+      by false q true g = absurd (other a (done-ends q g).0 (λ z. omega arith))
+
+  pub ended-done : {n : ℕ} {t : State} → r ≡ Done n t
+      → (quiet p s ≡ false) × (leb (length (words p s)) (length part) ≡ true) × (n ≡ length (words p s)) × (t ≡ step p s) × (l ≡ put part 0 (words p s))
+  unfolding code_of done_of
+  ended-done {n} {t} a = by (quiet p s) refl (leb (length (words p s)) (length part)) refl
+    where
+      by : (q : Bool) → quiet p s ≡ q → (f : Bool) → leb (length (words p s)) (length part) ≡ f
+          → (quiet p s ≡ false) × (leb (length (words p s)) (length part) ≡ true) × (n ≡ length (words p s)) × (t ≡ step p s) × (l ≡ put part 0 (words p s))
+      by true q f g = absurd (other a (quiet-ends q).0 (λ z. omega arith))
+      by false q false g = absurd (other a (crowded-ends q g).0 (λ z. omega arith))
+      by false q true g =
+          let d = ap (λ (x : Stepped). done_of x s) (sym a ∙ (done-ends q g).0) in
+          (q, g, ap (λ (x : ℕ × State). x.0) d, ap (λ (x : ℕ × State). x.1) d, (done-ends q g).1)
 
 -- ---- the list's part from place k on, as it is lent and put back
 abbrev lent : List ℕ → ℕ → List ℕ
@@ -143,6 +146,13 @@ module _ (p : Image) (s : State) (budget : ℕ) (l₀ : List ℕ) (start : ℕ) 
 
     pub going-spent : steps ≡ budget → quiet p t ≡ false → run p s budget l₀ start ≡ stop spent steps next t l
     going-spent e q = let z : budget - steps ≡ 0 = omega arith in g.rest ∙ (ap (λ (n : ℕ). run_from p n steps t l next) z ∙ run-spent p steps t l next q)
+
+    -- the whole budget is used
+    pub going-quiet-last : budget ≤ steps → quiet p t ≡ true → run p s budget l₀ start ≡ stop at_quiet budget next t l
+    going-quiet-last h q = let e : steps ≡ budget = omega (arith, g.within) in going-quiet q ∙ ap (λ (n : ℕ). stop at_quiet n next t l) e
+
+    pub going-spent-last : budget ≤ steps → quiet p t ≡ false → run p s budget l₀ start ≡ stop spent budget next t l
+    going-spent-last h q = let e : steps ≡ budget = omega (arith, g.within) in going-spent e q ∙ ap (λ (n : ℕ). stop spent n next t l) e
 
     left : steps < budget → budget - steps ≡ suc (budget - (steps + 1))
     left h = omega arith

@@ -6,36 +6,20 @@ ghost use Rattle.plexil.specs.Promises.{IsAdmitted};
 use plexil::{Card, State};
 
 // Running, or Quiet while no rule applies.
-fn good_card(image: &[u8], state: State, card: Card) -> bool
+fn good_card(image: &[u8], state: &State, card: Card) -> bool
     requires { IsAdmitted image.now }
-    ensures { result ≡ good_card image.now state card }
+    ensures { result ≡ good_card image.now state.now card }
 {
-    let phase = card.phase;
-    if phase == 0 {
-        return true;
+    match card.phase {
+        0 => true,
+        1 => micro::is_quiet(image, &state.lent()),
+        _ => false,
     }
-    if phase == 1 {
-        return micro::is_quiet(
-            image,
-            &state.status,
-            &state.outcome,
-            &state.failure,
-            &state.mark,
-            &state.vartags,
-            &state.varbits,
-            &state.looktags,
-            &state.lookbits,
-        );
-    }
-    false
 }
 
 pub fn good_kept(image: &[u8], state: State, card: Card) -> bool
     requires { IsAdmitted image.now }
     ensures { result ≡ good_kept image.now state card }
 {
-    if form::good_state(image, state) {
-        return good_card(image, state, card);
-    }
-    false
+    form::good_state(image, state) && good_card(image, &state, card)
 }

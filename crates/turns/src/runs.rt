@@ -7,7 +7,7 @@ ghost use Rattle.plexil.specs.Promises.{IsAdmitted, IsKept};
 ghost use Rattle.turns.specs.Ended.{ran_to, unrun};
 
 use super::tested::run_test;
-use micro::StepEnd;
+use micro::Stepped;
 use plexil::{Card, Ran, RunAnswer, State, Tested};
 
 // The reply of a run that ended: the serial stays, the phase is 1 exactly after Quiet.
@@ -53,40 +53,20 @@ pub(crate) fn run_steps(
 {
     let mut t = state;
     let mut next = start;
-    let mut steps: u16 = 0;
-    while steps < budget {
-        let r = micro::step(image, t, &mut list[next..]);
-        let end = r.end;
-        let words = r.words;
-        let after = r.state;
-        match end {
-            StepEnd::Quiet => {
-                return ended(RunAnswer::Quiet, 1, steps, next, t, card);
-            }
-            StepEnd::NoRoom => {
-                return ended(RunAnswer::NoRoom, 0, steps, next, t, card);
-            }
-            StepEnd::Done => {
+    for steps in 0..budget {
+        match micro::step(image, &t, &mut list[next..]) {
+            Stepped::Quiet => return ended(RunAnswer::Quiet, 1, steps, next, t, card),
+            Stepped::NoRoom => return ended(RunAnswer::NoRoom, 0, steps, next, t, card),
+            Stepped::Done(words, after) => {
                 t = after;
                 next += words as usize;
-                steps += 1;
             }
         }
     }
-    if micro::is_quiet(
-        image,
-        &t.status,
-        &t.outcome,
-        &t.failure,
-        &t.mark,
-        &t.vartags,
-        &t.varbits,
-        &t.looktags,
-        &t.lookbits,
-    ) {
-        return ended(RunAnswer::Quiet, 1, steps, next, t, card);
+    if micro::is_quiet(image, &t.lent()) {
+        return ended(RunAnswer::Quiet, 1, budget, next, t, card);
     }
-    ended(RunAnswer::Spent, 0, steps, next, t, card)
+    ended(RunAnswer::Spent, 0, budget, next, t, card)
 }
 
 pub fn run(

@@ -11,6 +11,6 @@ pub returns-then-good_state : goal.returns-then-good_state
 unfolding good_kept
 returns-then-good_state c = c.good_card.ensures ∙ sym (every-cons _ _ (sym c.good_state.ensures ∙ c.if-good_state.true) ∙ every_one _)
 
-pub returns : goal.returns
+pub returns-else-good_state : goal.returns-else-good_state
 unfolding good_kept
-returns c = sym (every-stop _ _ (sym c.good_state.ensures ∙ c.if-good_state.false))
+returns-else-good_state c = c.if-good_state.false ∙ sym (every-stop _ _ (sym c.good_state.ensures ∙ c.if-good_state.false))

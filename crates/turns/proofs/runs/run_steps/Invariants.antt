@@ -1,10 +1,6 @@
--- After each round what is left of the run goes on from here; what is left of the budget falls.
-use Prim.Native.Nat.{◌-◌}
+-- After each round what is left of the run goes on from here.
 use Rattle.turns.proofs.RunLaws.{Going}
 use Rattle.turns.proofs.runs.run_steps.Given as goal
 
 abbrev pub invariant-loop-steps : goal.invariant-loop-steps
 invariant-loop-steps l = Going l.image l.initial.t l.budget l.initial.list l.start l.steps l.t l.list l.next
-
-abbrev pub decreases-loop-steps : goal.decreases-loop-steps
-decreases-loop-steps l = l.budget - l.steps
