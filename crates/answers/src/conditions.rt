@@ -13,10 +13,10 @@ use evaluate::cell_value;
 use plexil::{Cell, Condition, Worked};
 
 // "expression, or 65535 for default"
-pub fn condition<'a>(
-    image: &'a [u8],
-    tags: &'a [u8],
-    bits: &'a [u64],
+pub fn condition(
+    image: &[u8],
+    tags: &[u8],
+    bits: &[u64],
     i: u16,
     c: Condition,
     normal: bool,
@@ -30,36 +30,20 @@ pub fn condition<'a>(
     cell_value(tags, bits, e)
 }
 
-pub fn holds<'a>(
-    image: &'a [u8],
-    tags: &'a [u8],
-    bits: &'a [u64],
-    i: u16,
-    c: Condition,
-    normal: bool,
-) -> bool
+pub fn holds(image: &[u8], tags: &[u8], bits: &[u64], i: u16, c: Condition, normal: bool) -> bool
     ensures { (s : State) → IsTable image.now s tags.now bits.now → i < node_count image.now → result ≡ says true (condition_or image.now (seen s) i c normal) }
 {
-    let v = condition(image, tags, bits, i, c, normal);
-    values::says(true, v)
+    values::says(true, condition(image, tags, bits, i, c, normal))
 }
 
-pub fn fails<'a>(
-    image: &'a [u8],
-    tags: &'a [u8],
-    bits: &'a [u64],
-    i: u16,
-    c: Condition,
-    normal: bool,
-) -> bool
+pub fn fails(image: &[u8], tags: &[u8], bits: &[u64], i: u16, c: Condition, normal: bool) -> bool
     ensures { (s : State) → IsTable image.now s tags.now bits.now → i < node_count image.now → result ≡ says false (condition_or image.now (seen s) i c normal) }
 {
-    let v = condition(image, tags, bits, i, c, normal);
-    values::says(false, v)
+    values::says(false, condition(image, tags, bits, i, c, normal))
 }
 
 // What a writer writes.
-pub fn written<'a>(image: &'a [u8], tags: &'a [u8], bits: &'a [u64], i: u16) -> Cell
+pub fn written(image: &[u8], tags: &[u8], bits: &[u64], i: u16) -> Cell
     ensures { (s : State) → IsTable image.now s tags.now bits.now → i < node_count image.now → is_writer image.now i ≡ true → result ≡ written image.now s i }
 {
     values::encode(cell_value(tags, bits, image::value_field(image, i)))

@@ -13,13 +13,7 @@ pub fn is_up(flags: &[u8], k: usize) -> bool
 }
 
 // Entry e, whose section stands at base. The flags of variables stand from 256 on, those of lookups from 384 on.
-pub fn is_touched<'a>(
-    image: &'a [u8],
-    base: u32,
-    e: u16,
-    altered: &'a [u8],
-    changed: &'a [u8],
-) -> bool
+pub fn is_touched(image: &[u8], base: u32, e: u16, altered: &[u8], changed: &[u8]) -> bool
     requires { (base ≡ exprs_at image.now) × (base < 2000000) }
     ensures { result ≡ touched image.now altered.now changed.now e }
 {

@@ -2,7 +2,8 @@
 ghost use Rattle.std.specs.Prelude.{◌≡◌, ◌<◌, ◌≤◌, length};
 ghost use Rattle.plexil.specs.declared.State.{State};
 ghost use Rattle.plexil.specs.Image.{exprs_at, expr_count};
-ghost use Rattle.plexil.specs.Places.{seen_of, seen};
+ghost use Rattle.plexil.specs.Places.{seen};
+ghost use Rattle.plexil.specs.Lent.{seen_in};
 ghost use Rattle.plexil.specs.Expressions.{value_of};
 ghost use Rattle.plexil.specs.Promises.{IsAdmitted, IsKept};
 ghost use Rattle.answers.specs.Table.{answer, IsTable};
@@ -10,7 +11,7 @@ ghost use Rattle.answers.specs.Changes.{Covers, Unchanged, Outside, Upto};
 
 use super::entry::answer;
 use super::flags::is_touched;
-use plexil::Cell;
+use plexil::{Cell, Seen};
 
 // An entry's cell, and whether it differs from the one before.
 #[derive(Clone, Copy)]
@@ -32,32 +33,26 @@ fn differs(old: Cell, new: Cell) -> u8
 }
 
 // Entry e, whose section stands at base and whose cell was old; the table is that of t below e, and that of s from e on.
-fn entry_anew<'a>(
-    image: &'a [u8],
+fn entry_anew(
+    image: &[u8],
     base: u32,
     e: u16,
-    st: &'a [u8],
-    oc: &'a [u8],
-    fl: &'a [u8],
-    vt: &'a [u8],
-    vb: &'a [u64],
-    lt: &'a [u8],
-    lb: &'a [u64],
-    altered: &'a [u8],
-    tags: &'a [u8],
-    bits: &'a [u64],
-    changed: &'a [u8],
+    lent: &Seen,
+    altered: &[u8],
+    tags: &[u8],
+    bits: &[u64],
+    changed: &[u8],
     old: Cell,
 ) -> Renewed
     requires { IsAdmitted image.now × (base ≡ exprs_at image.now) × (base < 2000000) × (e < expr_count image.now) }
     ensures { (s t : State) → IsKept image.now s → IsKept image.now t
-        → seen t ≡ seen_of st.now oc.now fl.now vt.now vb.now lt.now lb.now
+        → seen t ≡ seen_in lent.now
         → Covers (seen s) (seen t) altered.now → Upto image.now (seen s) (seen t) e tags.now bits.now
         → Unchanged image.now (seen s) (seen t) changed.now e → old ≡ answer image.now (seen s) e
         → (result.cell ≡ answer image.now (seen t) e) × (result.changed ≡ 0 → value_of image.now (seen s) e ≡ value_of image.now (seen t) e) }
 {
     if is_touched(image, base, e, altered, changed) {
-        let c = values::encode(answer(image, base, e, st, oc, fl, vt, vb, lt, lb, tags, bits));
+        let c = values::encode(answer(image, base, e, lent, tags, bits));
         let d = differs(old, c);
         return Renewed {
             cell: c,
@@ -71,16 +66,10 @@ fn entry_anew<'a>(
 }
 
 // The entries from lo on and below hi, outside of which nothing changed.
-pub fn refresh<'a>(
-    image: &'a [u8],
-    st: &'a [u8],
-    oc: &'a [u8],
-    fl: &'a [u8],
-    vt: &'a [u8],
-    vb: &'a [u64],
-    lt: &'a [u8],
-    lb: &'a [u64],
-    altered: &'a [u8],
+pub fn refresh(
+    image: &[u8],
+    lent: &Seen,
+    altered: &[u8],
     lo: u16,
     hi: u16,
     tags: &mut [u8; 2048],
@@ -89,24 +78,20 @@ pub fn refresh<'a>(
 )
     requires { IsAdmitted image.now × (lo ≤ expr_count image.now) × (hi ≤ expr_count image.now) × (length tags.old ≡ 2048) × (length bits.old ≡ 2048) × (length changed.old ≡ 2048) }
     ensures { (s t : State) → IsTable image.now s tags.old bits.old → IsKept image.now t
-        → seen t ≡ seen_of st.now oc.now fl.now vt.now vb.now lt.now lb.now
+        → seen t ≡ seen_in lent.now
         → Covers (seen s) (seen t) altered.now → Outside image.now (seen s) (seen t) lo hi
         → IsTable image.now t tags.new bits.new × Unchanged image.now (seen s) (seen t) changed.new (expr_count image.now) }
 {
     let base = image::exprs_at(image);
-    let mut e = lo;
-    while e < hi {
+    for e in lo..hi {
         let k = e as usize;
         let old = Cell {
             tag: tags[k],
             bits: bits[k],
         };
-        let r = entry_anew(
-            image, base, e, st, oc, fl, vt, vb, lt, lb, altered, tags, bits, changed, old,
-        );
+        let r = entry_anew(image, base, e, lent, altered, tags, bits, changed, old);
         tags[k] = r.cell.tag;
         bits[k] = r.cell.bits;
         changed[k] = r.changed;
-        e += 1;
     }
 }

@@ -5,4 +5,4 @@ use Rattle.plexil.specs.Values.{says}
 use Rattle.answers.proofs.conditions.fails.Goals as goal
 
 pub returns : goal.returns
-returns c s t b = c.says.ensures ∙ ap (says false) (c.condition-v.ensures s t b)
+returns c s t b = c.says.ensures ∙ ap (says false) (c.condition.ensures s t b)

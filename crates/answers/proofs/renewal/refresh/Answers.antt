@@ -31,9 +31,6 @@ bounds-bits-k-in-loop-e c = omega (arith, few-entries _ c.requires.0, c.requires
 pub bounds-changed-k : goal.bounds-changed-k
 bounds-changed-k c = omega (arith, few-entries _ c.requires.0, c.requires.2)
 
-pub overflow_add-e : goal.overflow_add-e
-overflow_add-e c = omega (arith, few-entries _ c.requires.0, c.requires.2)
-
 pub loop-e-preserved : goal.loop-e-preserved
 loop-e-preserved c = let l = c.loop-e in
     let few = few-entries _ c.requires.0 in

@@ -3,7 +3,6 @@ use Prim.Native.Nat.{ℕ, ◌<◌}
 use mathlib.Core.Path.{ap, ◌∙◌}
 use native.Mathlib.Omega.{arith}
 use lib.ListN.{length, length-set}
-use borrow.Author.Rules.{rules}
 use Rattle.plexil.specs.Values.{encode}
 use Rattle.plexil.specs.Image.{expr_count}
 use Rattle.plexil.proofs.Admitted.{few-entries}
@@ -12,7 +11,7 @@ use Rattle.answers.proofs.Filling.{below_none, below_next, below_all, worked-out
 use Rattle.answers.proofs.table.fill.Goals as goal
 
 pub loop-e-init : goal.loop-e-init
-loop-e-init c = (search rules, c.requires.1, c.requires.2, λ s h k. below_none _ s _ _)
+loop-e-init c = (c.expr_count-e-end.ensures, c.requires.1, c.requires.2, λ s h k. below_none _ s _ _)
 
 pub answer-requires : goal.answer-requires
 answer-requires c = (c.exprs_at-base.ensures, omega (arith, c.exprs_at-base.ensures, exprs_at-below c.args.image.now c.type_inv.image))
@@ -29,7 +28,7 @@ loop-e-preserved c = let l = c.loop-e in
     let b : l.e < expr_count c.args.image.now = omega arith in
     let lt : l.e < length l.tags = omega (arith, few, l.invariant.1) in
     let lb : l.e < length l.bits = omega (arith, few, l.invariant.2) in (
-      search rules,
+      l.invariant.0,
       length-set {A = ℕ} l.tags l.e c.encode-c.result.tag ∙ l.invariant.1,
       length-set {A = ℕ} l.bits l.e c.encode-c.result.bits ∙ l.invariant.2,
       λ s h k. below_next _ s l.tags l.bits l.e c.encode-c.result lt lb (l.invariant.3 s h k)
