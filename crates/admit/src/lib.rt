@@ -1,5 +1,5 @@
 // The check of a plan image: the lowest broken of the rules 1 to 12, with the lowest record that breaks it.
-#![tactic(auto, unfolding(plexil::specs::Lists::opened, plexil::specs::Check::opened, plexil::specs::Records::is_assignment, plexil::specs::Scope::given_pass, plexil::specs::Scope::if_assignment, plexil::specs::Scope::good_kinds, plexil::specs::Scope::good_reach, plexil::specs::Replies::checked_by, plexil::specs::Replies::check_reply))]
+#![tactic(auto, unfolding(plexil::specs::Lists::opened, plexil::specs::Check::opened, plexil::specs::Records::is_assignment, plexil::specs::Scope::given_pass, plexil::specs::Scope::if_assignment, plexil::specs::Scope::good_kinds, plexil::specs::Scope::good_reach, plexil::specs::Scope::in_scope, plexil::specs::Replies::checked_by, plexil::specs::Replies::check_reply))]
 
 mod depth;
 mod kinds;

@@ -1,4 +1,4 @@
-// The refusal numbers of the rules of a plan image.
+// The refusal numbers of the rules of a plan image. What may not change: rule_number is a public function; a From<Rule> beside it would be a second one.
 ghost use Rattle.std.specs.Prelude.{◌≡◌};
 ghost use Rattle.plexil.specs.Check.{rule_number};
 

@@ -1,4 +1,5 @@
 // Rule 12's table: what the variables of each entry's tree ask of the node that reads them, from the entries before it.
+// 0 nothing, 257 nobody, else one more than the node: fixed memory, since an enum would make the table of 2048 twice as big on the stack.
 ghost use Rattle.std.specs.Prelude.{◌≡◌, [], ◌∷◌, ℕ, ◌<◌};
 ghost use Rattle.plexil.specs.Lists.{every};
 ghost use Rattle.plexil.specs.Image.{node_count, expr_count};
@@ -7,6 +8,7 @@ ghost use Rattle.admit.specs.Owners.{allows, Asks, Asked, Ordered, Owned};
 use super::reach::is_above;
 
 // Whether node i may read what asks o.
+#[tactic(auto, unfolding(plexil::specs::Lists::opened, crate::specs::Owners::allows))]
 pub(crate) fn allowed(image: &[u8], o: u16, i: u16) -> bool
     ensures { result ≡ allows image.now o i }
 {
@@ -20,6 +22,7 @@ pub(crate) fn allowed(image: &[u8], o: u16, i: u16) -> bool
 }
 
 // What two operands ask together: the lower one's node, if it is below the other's.
+// No plainer as a struct with Ordered in it: broken_reach alone would make one, and Reach, which has the fact already, would reach through it.
 fn both(image: &[u8], a: u16, b: u16) -> u16
     requires ordered { Ordered image.now }
     requires asked { Asked image.now a }

@@ -13,10 +13,9 @@ use plexil::{Condition, first};
 use records::all_conditions;
 
 // The owner is node i or above it; the walk goes up at most `left` nodes.
-pub(crate) fn is_above(image: &[u8], left: u32, owner: u16, i: u16) -> bool
+pub(crate) fn is_above(image: &[u8], left: u32, owner: u16, mut i: u16) -> bool
     ensures { result ≡ is_above image.now left owner i }
 {
-    let mut i = i;
     for _ in 0..left {
         if owner == i {
             return true;

@@ -7,27 +7,24 @@ use super::shape::entry_count;
 use places::known_cell;
 use plexil::{Cell, State};
 
-fn with_lookup(s: State, l: u16, c: Cell) -> State
+fn with_lookup(mut s: State, l: u16, c: Cell) -> State
     ensures { result ≡ with_lookup s l c }
 {
-    let k = l as usize;
-    let mut t = s;
-    if k < 64 {
-        t.looktags[k] = c.tag;
-        t.lookbits[k] = c.bits;
+    let l = l as usize;
+    if l < 64 {
+        s.looktags[l] = c.tag;
+        s.lookbits[l] = c.bits;
     }
-    t
+    s
 }
 
-fn with_mark(s: State, i: u16) -> State
+fn with_mark(mut s: State, i: u16) -> State
     ensures { result ≡ with_mark s i }
 {
-    let k = i as usize;
-    let mut t = s;
-    if k < 256 {
-        t.mark[k] = 1;
+    if i < 256 {
+        s.mark[i as usize] = 1;
     }
-    t
+    s
 }
 
 fn enter(image: &[u8], event: &[u8], k: u16, s: State) -> State

@@ -14,7 +14,7 @@ fn good_cell(kind: u8, tag: u8, bits: u64) -> bool
     tag - 1 == kind && values::good_bits(kind, bits)
 }
 
-// Cell i, of variables or of lookups.
+// Cell i, of variables or of lookups. The C interface has a state's tags and bits in two arrays.
 pub(crate) fn has_kind(kind: u8, tags: &[u8], bits: &[u64], i: u16) -> bool
     ensures { result ≡ has_kind kind (cell (get_or tags.now i 0) (get_or bits.now i 0)) }
 {

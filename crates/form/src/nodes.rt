@@ -17,6 +17,7 @@ fn good_mark(image: &[u8], state: &State, i: u16) -> bool
     m == 1 && image::node_type(image, i) == 1 && is_awaiting(status_at(&state.status, i))
 }
 
+// "codes are in range": the C interface has them as bytes, so that a state from outside can hold any.
 pub(crate) fn good_place(image: &[u8], state: &State, i: u16) -> bool
     ensures { result ≡ good_place image.now state.now i }
 {

@@ -7,9 +7,6 @@ use Rattle.plexil.specs.Scope.{is_above}
 use Rattle.admit.proofs.Scope.{above-here, above-top, above-up, above-none}
 use Rattle.admit.proofs.reach.is_above.Goals as goal
 
-pub loop-init : goal.loop-init
-loop-init c = ap (λ (n : ℕ). is_above c.args.image.now n c.args.owner c.args.i) (omega arith)
-
 pub returns-then-owner-i : goal.returns-then-owner-i
 returns-then-owner-i c = sym (c.loop.invariant ∙ above-here _ _ _ _ (omega arith) c.if-owner-i.true)
 

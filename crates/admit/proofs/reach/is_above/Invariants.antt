@@ -5,4 +5,4 @@ use Rattle.plexil.specs.Scope.{is_above}
 use Rattle.admit.proofs.reach.is_above.Given as goal
 
 abbrev pub invariant-loop : goal.invariant-loop
-invariant-loop l = is_above l.image l.left l.owner l.i-2 ≡ is_above l.image (l.left - l.counter) l.owner l.i
+invariant-loop l = is_above l.image l.left l.owner l.fn.i ≡ is_above l.image (l.left - l.counter) l.owner l.i
