@@ -38,7 +38,6 @@ fn bytes_at<const N: usize>(b: &[u8], k: usize) -> [u8; N]
 }
 
 // The same where the image ends before them. It stands apart, so that a reader's common way is one test and one load.
-#[cold]
 #[inline(never)]
 fn cut_short<const N: usize>(b: &[u8], k: usize) -> [u8; N]
     requires { length b.now < k + N }
