@@ -1,4 +1,3 @@
 pub mod Integers
-pub mod Sums
-pub mod Products
+pub mod Checked
 pub mod Finite

@@ -122,7 +122,7 @@ pub fn guarded() -> [u8; 86] {
 pub fn over() -> [u8; 108] {
     let mut image = [0u8; 108];
     lone(&mut image, 3, 2);
-    write::expr(&mut image, 44, 0, 1, 0, 1, 9223372036854775807);
+    write::expr(&mut image, 44, 0, 1, 0, 1, i64::MAX as u64);
     write::expr(&mut image, 60, 0, 1, 0, 1, 1);
     write::expr(&mut image, 76, 12, 1, 0, 1, 0);
     write::variable(&mut image, 92, 1, 0, 0, 0);

@@ -1,26 +1,24 @@
 // A small assembler: a record is a row of 16-bit numbers, each least byte first.
-use std::num::wrapping_add_usize;
 
 // Past the end nothing is stored.
 pub fn put(buf: &mut [u8], at: usize, b: u8) {
-    if at < buf.len() {
-        buf[at] = b;
+    if let Some(place) = buf.get_mut(at) {
+        *place = b;
     }
 }
 
 // The low 16 bits of n.
 pub fn put16(buf: &mut [u8], at: usize, n: u32) {
-    put(buf, at, (n % 256) as u8);
-    put(buf, wrapping_add_usize(at, 1), (n / 256 % 256) as u8);
+    let [low, high, _, _] = n.to_le_bytes();
+    put(buf, at, low);
+    put(buf, at.wrapping_add(1), high);
 }
 
 pub(crate) fn numbers(buf: &mut [u8], at: usize, row: &[u32]) {
     let mut place = at;
-    let mut k = 0;
-    while k < row.len() {
-        put16(buf, place, row[k]);
-        place = wrapping_add_usize(place, 2);
-        k += 1;
+    for n in row {
+        put16(buf, place, *n);
+        place = place.wrapping_add(2);
     }
 }
 
@@ -59,15 +57,18 @@ pub(crate) fn assignment(buf: &mut [u8], at: usize, parent: u32, what: u32, valu
 
 // Two bytes, two numbers, a spare number and 64 bits.
 fn wide(buf: &mut [u8], at: usize, low: u8, high: u8, a: u32, b: u32, bits: u64) {
+    let first = u32::from(u16::from_le_bytes([low, high]));
+    let low_bits = (bits % (1 << 32)) as u32;
+    let high_bits = (bits >> 32) as u32;
     let row = [
-        low as u32 + 256 * (high as u32),
+        first,
         a,
         b,
         0,
-        (bits % 65536) as u32,
-        (bits / 65536 % 65536) as u32,
-        (bits / 4294967296 % 65536) as u32,
-        (bits / 281474976710656) as u32,
+        low_bits,
+        low_bits >> 16,
+        high_bits,
+        high_bits >> 16,
     ];
     numbers(buf, at, &row);
 }

@@ -1,5 +1,7 @@
-// The plan image of document 01: little-endian numbers, and the records that are made of them. Every reader is total on any bytes.
-#![tactic(auto)]
+// The plan image of document 01: little-endian numbers, and the records that are made of them. Every reader is total on any bytes, as its definition is.
+// So a field is a number, and no `Option` or enum: which numbers are good is the check's question, in `records` and `admit`.
+// Each field has a reader of its own, one line, since the definitions name each.
+#![tactic(auto, unfolding(plexil::specs::Bytes::opened, plexil::specs::Image::opened, crate::specs::Records::opened))]
 
 mod bytes;
 mod exprs;

@@ -1,11 +1,9 @@
-// "An opened plan is a view over the caller's image bytes and copies none of them." Functions over the view are thin: the work is done on slice and number.
+// "An opened plan is a view over the caller's image bytes and copies none of them."
 #![tactic(auto)]
-
-mod by_number;
 
 ghost use Rattle.plan.specs.Permits.{OpenPermits, NodePermits, ExpressionPermits, VariablePermits, LookupPermits};
 
-pub use by_number::{ExpressionAt, LookupAt, NodeAt, VariableAt};
+use image::{ExprRecord, LookRecord, NodeRecord, VarRecord};
 use plexil::{Counts, Verdict};
 
 // The counts are those of the check: 0 where the image is refused.
@@ -35,27 +33,27 @@ pub fn open<'a>(image: &'a [u8]) -> Opened<'a>
     }
 }
 
-// A number that is not below the plan's count is Outside: in the view of a refused image every number is.
-pub fn node<'a>(plan: Plan<'a>, i: u16) -> NodeAt
+// A record by its number. One that is not below the plan's count has none: in the view of a refused image no number has.
+pub fn node<'a>(plan: Plan<'a>, i: u16) -> Option<NodeRecord>
     ensures { NodePermits plan.entry i result }
 {
-    by_number::node_at(plan.image, plan.counts.nodes, i)
+    (i < plan.counts.nodes).then(|| image::node_record(plan.image, i))
 }
 
-pub fn expression<'a>(plan: Plan<'a>, e: u16) -> ExpressionAt
+pub fn expression<'a>(plan: Plan<'a>, e: u16) -> Option<ExprRecord>
     ensures { ExpressionPermits plan.entry e result }
 {
-    by_number::expression_at(plan.image, plan.counts.exprs, e)
+    (e < plan.counts.exprs).then(|| image::expr_record(plan.image, e))
 }
 
-pub fn variable<'a>(plan: Plan<'a>, v: u16) -> VariableAt
+pub fn variable<'a>(plan: Plan<'a>, v: u16) -> Option<VarRecord>
     ensures { VariablePermits plan.entry v result }
 {
-    by_number::variable_at(plan.image, plan.counts.vars, v)
+    (v < plan.counts.vars).then(|| image::var_record(plan.image, v))
 }
 
-pub fn lookup<'a>(plan: Plan<'a>, l: u16) -> LookupAt
+pub fn lookup<'a>(plan: Plan<'a>, l: u16) -> Option<LookRecord>
     ensures { LookupPermits plan.entry l result }
 {
-    by_number::lookup_at(plan.image, plan.counts.looks, l)
+    (l < plan.counts.looks).then(|| image::look_record(plan.image, l))
 }

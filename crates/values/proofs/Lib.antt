@@ -1,3 +1,1 @@
-pub mod Operators
-pub mod Tags
 pub mod RoundTrip

@@ -1,12 +1,10 @@
 -- A value that is kept is read back, and the bits of a known value are kept as they are.
-use Prim.Native.Nat.{ℕ, zero, suc, ◌-◌, ◌^◌, ◌<◌}
+use Prim.Native.Nat.{ℕ, zero, suc, ◌^◌, ◌<◌}
 use mathlib.Core.Path.{◌≡◌, refl, sym, ap, ◌∙◌}
-use mathlib.Core.Bool.{Bool, true, false, ◌&&◌, false≢true}
+use mathlib.Core.Bool.{Bool, true, false, false≢true}
 use native.Mathlib.Omega.{arith}
 use borrow.Author.Tests.{leb-true, eqb-true}
-use lib.Dec.{T, leb, eqb}
-use lib.IntN.{ℤ, pos, negsuc}
-use lib.Signed.{mag}
+use lib.Dec.{T, eqb}
 use lib.Ieee.{Float, binary64, fits, of_bits, to_bits}
 use lib.Ieee.Bits.{of_bits-to_bits, of_bits-fits, to_bits-of_bits}
 use mir.Syntax.{w64}
@@ -15,7 +13,7 @@ use Rattle.plexil.specs.Values.{in_range, finite, real_in, known, good_bits, dec
 use Rattle.plexil.specs.declared.Worked.{Worked}
 use Rattle.plexil.specs.declared.Worked.TheVariants as w
 use Rattle.plexil.proofs.ListLaws.{if-true, if-either}
-use Rattle.arithmetic.proofs.Integers.{back, in-range}
+use Rattle.arithmetic.proofs.Integers.{back, in-range, range-of}
 use Rattle.arithmetic.proofs.Finite.{no_nan, real-yes}
 
 -- the values that a cell holds: no Clash, an Int in range, a finite Real of 64 bits
@@ -25,15 +23,6 @@ Keepable w.Unknown = Unit {0}
 Keepable (w.Bool b) = Unit {0}
 Keepable (w.Int z) = in_range z ≡ true
 Keepable (w.Real x) = (finite x ≡ true) × T (fits binary64 x)
-
-range-of : (z : ℤ) → in_range z ≡ true → mag z < 2 ^ 63
-unfolding in_range
-range-of (pos n) h = omega (arith, leb-true n (2 ^ 63 - 1) h)
-range-of (negsuc n) h = omega (arith, leb-true n (2 ^ 63 - 1) (alone (leb n (2 ^ 63 - 1)) h))
-  where
-    alone : (b : Bool) → (b && true) ≡ true → b ≡ true
-    alone true h = refl
-    alone false h = h
 
 pub read_back : (v : Worked) → Keepable v → decode (encode v).tag (encode v).bits ≡ v
 unfolding decode encode known

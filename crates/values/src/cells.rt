@@ -1,41 +1,12 @@
 // How a value is kept: a tag and 64 bits.
+// Kinds and tags stay numbers: `good_bits`, `known` and `decode` and their definitions take any byte that a plan or a state has.
+// `decode` and `encode` are no `From`: an impl for `Worked` and `Cell` belongs to plexil, and a state keeps tags and bits apart.
 ghost use Rattle.std.specs.Prelude.{◌≡◌};
-ghost use Rattle.std.specs.Float.{binary64};
-ghost use Rattle.std.specs.Float.Ieee.{of_bits};
-ghost use Rattle.std.specs.Int.{w64};
-ghost use Rattle.std.proofs.Common.{to_z, of_z};
 ghost use Rattle.plexil.specs.Values as Values;
 
-use arithmetic::is_finite;
+use arithmetic::{is_finite, real_in};
 use plexil::{Cell, Worked};
-
-// The number of 64 bits in two's complement.
-fn int_of(bits: u64) -> i64
-    ensures { result ≡ to_z w64 bits }
-{
-    if bits < 9223372036854775808 {
-        bits as i64
-    } else {
-        -1 - ((18446744073709551615 - bits) as i64)
-    }
-}
-
-fn int_bits(x: i64) -> u64
-    ensures { result ≡ of_z w64 x }
-{
-    if x < 0 {
-        18446744073709551615 - ((-1 - x) as u64)
-    } else {
-        x as u64
-    }
-}
-
-// An exponent of all ones is an infinity's or a NaN's.
-fn finite_bits(bits: u64) -> bool
-    ensures { result ≡ Values.finite (of_bits binary64 bits) }
-{
-    bits % 9223372036854775808 / 4503599627370496 != 2047
-}
+use std::num::f64_from_bits_with_nan;
 
 // "Bool 0 or 1, Int two's complement, finite Real's bits"
 pub fn good_bits(kind: u8, bits: u64) -> bool
@@ -44,7 +15,7 @@ pub fn good_bits(kind: u8, bits: u64) -> bool
     match kind {
         0 => bits <= 1,
         1 => true,
-        2 => finite_bits(bits),
+        2 => is_finite(f64_from_bits_with_nan(bits)),
         _ => false,
     }
 }
@@ -55,12 +26,8 @@ pub fn known(kind: u8, bits: u64) -> Worked
 {
     match kind {
         0 => Worked::Bool(bits == 1),
-        1 => Worked::Int(int_of(bits)),
-        2 => if finite_bits(bits) {
-            Worked::Real(f64::from_bits(bits))
-        } else {
-            Worked::Unknown
-        },
+        1 => Worked::Int(bits.cast_signed()),
+        2 => real_in(f64_from_bits_with_nan(bits)),
         _ => Worked::Unknown,
     }
 }
@@ -81,23 +48,18 @@ pub fn encode(v: Worked) -> Cell
     ensures { result ≡ Values.encode v }
 {
     match v {
-        Worked::Clash => Cell { tag: 0, bits: 0 },
-        Worked::Unknown => Cell { tag: 0, bits: 0 },
         Worked::Bool(b) => Cell {
             tag: 1,
-            bits: b as u64,
+            bits: u64::from(b),
         },
         Worked::Int(x) => Cell {
             tag: 2,
-            bits: int_bits(x),
+            bits: x.cast_unsigned(),
         },
-        Worked::Real(x) => if is_finite(x) {
-            Cell {
-                tag: 3,
-                bits: f64::to_bits(x),
-            }
-        } else {
-            Cell { tag: 0, bits: 0 }
+        Worked::Real(x) if is_finite(x) => Cell {
+            tag: 3,
+            bits: x.to_bits(),
         },
+        _ => Cell { tag: 0, bits: 0 },
     }
 }

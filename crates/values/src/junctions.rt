@@ -15,24 +15,11 @@ fn decided(d: bool, side: bool, other: Worked) -> Worked
 fn joined(d: bool, a: Worked, b: Worked) -> Worked
     ensures { result ≡ junction d a b }
 {
-    match a {
-        Worked::Clash => Worked::Clash,
-        Worked::Unknown => match b {
-            Worked::Clash => Worked::Clash,
-            Worked::Unknown => Worked::Unknown,
-            Worked::Bool(y) => decided(d, y, Worked::Unknown),
-            Worked::Int(_) => Worked::Clash,
-            Worked::Real(_) => Worked::Clash,
-        },
-        Worked::Bool(x) => match b {
-            Worked::Clash => Worked::Clash,
-            Worked::Unknown => decided(d, x, Worked::Unknown),
-            Worked::Bool(y) => decided(d, x, Worked::Bool(y)),
-            Worked::Int(_) => Worked::Clash,
-            Worked::Real(_) => Worked::Clash,
-        },
-        Worked::Int(_) => Worked::Clash,
-        Worked::Real(_) => Worked::Clash,
+    match (a, b) {
+        (Worked::Unknown, Worked::Unknown) => Worked::Unknown,
+        (Worked::Unknown, Worked::Bool(y)) => decided(d, y, Worked::Unknown),
+        (Worked::Bool(x), Worked::Unknown | Worked::Bool(_)) => decided(d, x, b),
+        _ => Worked::Clash,
     }
 }
 

@@ -1,5 +1,5 @@
 // "Values and expressions": the operators on worked-out values, and how a value is kept in a cell.
-#![tactic(auto)]
+#![tactic(auto, unfolding(plexil::specs::Values::opened))]
 
 mod cells;
 mod junctions;

@@ -8,36 +8,15 @@ use plexil::{Pair, Worked};
 pub fn pair_of(a: Worked, b: Worked) -> Pair
     ensures { result ≡ pair_of a b }
 {
-    match a {
-        Worked::Clash => Pair::Clash,
-        Worked::Unknown => match b {
-            Worked::Clash => Pair::Clash,
-            Worked::Unknown => Pair::Unknown,
-            Worked::Bool(_) => Pair::UnknownBool,
-            Worked::Int(_) => Pair::Unknown,
-            Worked::Real(_) => Pair::Unknown,
-        },
-        Worked::Bool(x) => match b {
-            Worked::Clash => Pair::Clash,
-            Worked::Unknown => Pair::UnknownBool,
-            Worked::Bool(y) => Pair::Bools(x, y),
-            Worked::Int(_) => Pair::Clash,
-            Worked::Real(_) => Pair::Clash,
-        },
-        Worked::Int(x) => match b {
-            Worked::Clash => Pair::Clash,
-            Worked::Unknown => Pair::Unknown,
-            Worked::Bool(_) => Pair::Clash,
-            Worked::Int(y) => Pair::Ints(x, y),
-            Worked::Real(_) => Pair::Clash,
-        },
-        Worked::Real(x) => match b {
-            Worked::Clash => Pair::Clash,
-            Worked::Unknown => Pair::Unknown,
-            Worked::Bool(_) => Pair::Clash,
-            Worked::Int(_) => Pair::Clash,
-            Worked::Real(y) => Pair::Reals(x, y),
-        },
+    match (a, b) {
+        (Worked::Bool(x), Worked::Bool(y)) => Pair::Bools(x, y),
+        (Worked::Int(x), Worked::Int(y)) => Pair::Ints(x, y),
+        (Worked::Real(x), Worked::Real(y)) => Pair::Reals(x, y),
+        (Worked::Unknown, Worked::Bool(_)) | (Worked::Bool(_), Worked::Unknown) =>
+            Pair::UnknownBool,
+        (Worked::Unknown, Worked::Unknown | Worked::Int(_) | Worked::Real(_)) => Pair::Unknown,
+        (Worked::Int(_) | Worked::Real(_), Worked::Unknown) => Pair::Unknown,
+        _ => Pair::Clash,
     }
 }
 
@@ -47,8 +26,7 @@ pub fn eq_of(p: Pair) -> Worked
 {
     match p {
         Pair::Clash => Worked::Clash,
-        Pair::Unknown => Worked::Unknown,
-        Pair::UnknownBool => Worked::Unknown,
+        Pair::Unknown | Pair::UnknownBool => Worked::Unknown,
         Pair::Bools(x, y) => Worked::Bool(x == y),
         Pair::Ints(x, y) => Worked::Bool(x == y),
         Pair::Reals(x, y) => Worked::Bool(x == y),

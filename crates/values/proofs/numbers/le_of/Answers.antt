@@ -1,53 +1,7 @@
--- LE by the kinds of both operands.
-use Rattle.values.proofs.Operators.{of-ints, of-reals}
-use Rattle.plexil.specs.Values.{numeric, le_of}
-use borrow.Author.Rules.{rules}
+use Rattle.std.proofs.Common.{rules}
+use Rattle.plexil.specs.Values.{le_of}
 use Rattle.values.proofs.numbers.le_of.Goals as goal
 
-pub enum_told-1 : goal.enum_told-1
-unfolding numeric le_of
-enum_told-1 c = search rules
-
-pub enum_told-in-Unknown : goal.enum_told-in-Unknown
-unfolding numeric le_of
-enum_told-in-Unknown c = search rules
-
-pub enum_told-in-UnknownBool : goal.enum_told-in-UnknownBool
-unfolding numeric le_of
-enum_told-in-UnknownBool c = search rules
-
-pub enum_told-in-Bools : goal.enum_told-in-Bools
-unfolding numeric le_of
-enum_told-in-Bools c = search rules
-
-pub enum_known-p : goal.enum_known-p
-unfolding numeric le_of
-enum_known-p c = search rules
-
-pub enum_known-p-in-Reals-1 : goal.enum_known-p-in-Reals-1
-unfolding numeric le_of
-enum_known-p-in-Reals-1 c = search rules
-
-pub returns-in-Clash : goal.returns-in-Clash
-unfolding numeric le_of
-returns-in-Clash c = search rules
-
-pub returns-in-Unknown : goal.returns-in-Unknown
-unfolding numeric le_of
-returns-in-Unknown c = search rules
-
-pub returns-in-UnknownBool : goal.returns-in-UnknownBool
-unfolding numeric le_of
-returns-in-UnknownBool c = search rules
-
-pub returns-in-Bools : goal.returns-in-Bools
-unfolding numeric le_of
-returns-in-Bools c = search rules
-
-pub returns-in-Ints : goal.returns-in-Ints
-unfolding numeric le_of
-returns-in-Ints c = of-ints _ _ c.in-Ints.known_told-1-own.given.0.1 c.in-Ints.known_told-1-own.given.1.0.1 c.in-Ints.is
-
-pub returns-in-Reals : goal.returns-in-Reals
-unfolding numeric le_of
-returns-in-Reals c = of-reals _ _ c.in-Reals.is
+pub returns : goal.returns
+unfolding le_of
+returns c = c.numeric.ensures _ _ (λ x y w h. search rules) (λ x y w h. search rules)
