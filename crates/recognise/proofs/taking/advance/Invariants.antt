@@ -1,8 +1,8 @@
--- `advance` meets its contract. What is to be heard at the cursor is still to be heard where the loop stands, and each token lies further on.
+-- What is to be heard at the cursor is still to be heard where the loop stands, and each token lies further on.
 use Prim.Native.Nat.{◌-◌}
 use lib.ListN.{length}
 use Rattle.recognise.proofs.Advances.{Kept}
-use Rattle.recognise.proofs.advance.Given as goal
+use Rattle.recognise.proofs.taking.advance.Given as goal
 
 abbrev pub invariant-loop-t : goal.invariant-loop-t
 invariant-loop-t l = Kept l.text l.initial.at l.initial.ahead l.at l.ahead
