@@ -17,16 +17,16 @@ use Rattle.notation.specs.Rows.{plan, notation}
 use Rattle.notation.specs.Spoken.{is_silent, spoken}
 use Rattle.notation.specs.Classes.{class_of}
 use Rattle.notation.specs.Reading.{plan_says}
+use Rattle.std.specs.Prelude.{Ok, Err}
 use Rattle.recognise.specs.declared.Ahead.{Ahead}
-use Rattle.recognise.specs.declared.Move.{Move}
-use Rattle.recognise.specs.declared.Stepped.{Stepped}
-use Rattle.recognise.specs.declared.Taken.{Taken}
+use Rattle.recognise.specs.declared.taking.Taken.{Taken}
+use Rattle.recognise.specs.declared.taking.Halt.{Halt}
 use Rattle.recognise.specs.declared.Cursor.{Cursor}
 use Rattle.recognise.specs.Codes as Codes
 use Rattle.recognise.specs.Codes.{say_of, over}
 use Rattle.recognise.specs.Positions as Positions
-use Rattle.recognise.specs.Tables.{row_of}
-use Rattle.recognise.specs.Steps.{Effect, refuses, goes_on, begins_node, begins_in_list, closes_list, opens_list, assigns, opens_paren, ends, closes_paren, marks, effect_of, start_ahead, most, moved, step_of}
+use Rattle.recognise.specs.Tables.{Move, row_of}
+use Rattle.recognise.specs.Steps.{Stepped, Effect, refuses, goes_on, begins_node, begins_in_list, closes_list, opens_list, assigns, opens_paren, ends, closes_paren, marks, effect_of, start_ahead, most, moved, step_of}
 use Rattle.recognise.specs.Taking.{taken_of}
 use Rattle.recognise.specs.Hears as Hears
 use Rattle.recognise.specs.Hears.{Hearing, Scanned, Heard, piece}
@@ -122,11 +122,11 @@ pub record Kept (u : List ℕ) (m : ℕ) (b : Ahead) (n : ℕ) (a : Ahead) : Typ
   pub onward : m ≤ n
   pub hears : (l : List (Said Saying)) → Hearing u m b l → Hearing u n a l
 
-module _ (u : List ℕ) (small : length u < 18446744073709551616) (c : Cursor) (n : ℕ) (a : Ahead) (kept : Kept u c.at c.ahead n a) (r : Taken) (e : r ≡ taken_of u n a) where
-  pub advanced-over : (r.kind ≡ 1 → ⊥) → Scanned u c (record { at = n; from = 0; to = 0; says = 94; ahead = a; sayings = 0 })
+module _ (u : List ℕ) (small : length u < 18446744073709551616) (c : Cursor) (n : ℕ) (a : Ahead) (kept : Kept u c.at c.ahead n a) where
+  pub advanced-over : (h : Halt) → Err h ≡ taken_of u n a → Scanned u c (record { at = n; from = 0; to = 0; says = 94; ahead = a; sayings = 0 })
   unfolding Hears.opened
-  advanced-over h = record {
-    more = λ w l g. absurd (let z : w ∷ l ≡ [] = hear-ends u small n a (w ∷ l) (kept.hears (w ∷ l) g) r e h in let y : ◌≡◌ {A = ℕ} 0 1 = cc in omega arith);
+  advanced-over h e = record {
+    more = λ w l g. absurd (let z : w ∷ l ≡ [] = hear-ends u small n a (w ∷ l) (kept.hears (w ∷ l) g) h e in let y : ◌≡◌ {A = ℕ} 0 1 = cc in omega arith);
     done = λ g. refl;
     plain = refl;
     onward = kept.onward;
@@ -135,28 +135,28 @@ module _ (u : List ℕ) (small : length u < 18446744073709551616) (c : Cursor) (
     within = omega arith;
   }
 
-  module _ (h : r.kind ≡ 1) where
+  module _ (r : Taken) (e : Ok r ≡ taken_of u n a) where
     pub further : (n < r.to) × (r.from ≤ r.to) × (r.to ≤ length u)
-    further = taken-further u small n a r (taken-one u n a r e h)
+    further = taken-further u small n a r (taken-one u n a r e)
 
     pub kept_on : r.says ≡ 0 → Kept u c.at c.ahead r.to r.next
-    kept_on s = record { onward = omega (arith, kept.onward, further.0); hears = λ l g. taken-silent u small n a r (taken-one u n a r e h) s l (kept.hears l g) }
+    kept_on s = record { onward = omega (arith, kept.onward, further.0); hears = λ l g. taken-silent u small n a r (taken-one u n a r e) s l (kept.hears l g) }
 
     pub advanced-heard : (r.says ≡ 0 → ⊥) → Scanned u c (record { at = r.to; from = r.from; to = r.to; says = r.says; ahead = r.next; sayings = 0 })
     unfolding Hears.opened token_in
     advanced-heard s = record {
       more = λ w l g. (
-          let k = taken-heard u small n a r (taken-one u n a r e h) s (w ∷ l) (kept.hears (w ∷ l) g) in
+          let k = taken-heard u small n a r (taken-one u n a r e) s (w ∷ l) (kept.hears (w ∷ l) g) in
           let x : token_said u r ≡ w = cc in
           let y : k.0 ≡ l = cc in (
             record { what = ap (λ (z : Said Saying). z.what) x; bytes = sym (slice-part r.from r.to u) ∙ ap (λ (z : Said Saying). z.token.bytes) x; place = ap (λ (z : Said Saying). z.token.place) x },
             subst (λ (z : List (Said Saying)). Hearing u r.to r.next z) y k.1,
             omega (arith, kept.onward, further.0),
           ));
-      done = λ g. absurd (let k = taken-heard u small n a r (taken-one u n a r e h) s [] (kept.hears [] g) in let y : ◌≡◌ {A = ℕ} 0 1 = cc in omega arith);
+      done = λ g. absurd (let k = taken-heard u small n a r (taken-one u n a r e) s [] (kept.hears [] g) in let y : ◌≡◌ {A = ℕ} 0 1 = cc in omega arith);
       plain = refl;
       onward = omega (arith, kept.onward, further.0);
-      known = omega (arith, taken-says u small n a r (taken-one u n a r e h));
+      known = omega (arith, taken-says u small n a r (taken-one u n a r e));
       ordered = further.1;
       within = further.2;
     }

@@ -10,9 +10,8 @@ use lib.ListN.{get_or}
 use lib.Dec.{eqb, ltb}
 use Rattle.grammar.specs.Table.{Item}
 use Rattle.notation.specs.Rows.{Close, semicolon, bracket, Sort}
-use Rattle.recognise.specs.declared.Move.{Move}
 use Rattle.recognise.specs.Positions.{Bottom, Position, at, position_at}
-use Rattle.recognise.specs.Tables.{bases, owners, refusal, row_at, row_of}
+use Rattle.recognise.specs.Tables.{Move, bases, owners, refusal, row_at, row_of}
 use Rattle.recognise.proofs.Claims.{where_of, found, reached_at, tabled, rowed_at, tabled_at, all_rowed, all_tabled, listing}
 use Rattle.recognise.proofs.Tabled.{tables-semicolon, tables-bracket}
 use Rattle.recognise.proofs.Found.{listing-at}

@@ -12,8 +12,7 @@ use Rattle.notation.specs.Rows.{Close, semicolon, bracket, Sort, nodes, called_n
 use Rattle.notation.specs.Classes.{literals, literal_from, bound_from, bounds, within_bound, is_literal, a_name, a_real}
 use Rattle.recognise.specs.Codes.{say_of}
 use Rattle.recognise.specs.Positions.{Bottom, lists, body, expression, Position, position_at, operator_at}
-use Rattle.recognise.specs.declared.Move.{Move}
-use Rattle.recognise.specs.Tables.{row_of}
+use Rattle.recognise.specs.Tables.{Move, row_of}
 use Rattle.recognise.specs.Steps.{Effect, refuses, goes_on, begins_node, begins_in_list, closes_list, opens_list, assigns, opens_paren, ends, closes_paren, marks, effect_of}
 
 -- what a token of a class says, and the items that stand in place of the first

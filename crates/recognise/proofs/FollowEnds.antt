@@ -1,7 +1,7 @@
 -- What the loop over a text's tokens tells where it ends.
 use Prim.Native.Nat.{ℕ, zero, suc, ◌+◌, ◌-◌, ◌<◌, ◌≤◌}
 use mathlib.Core.Path.{◌≡◌, refl, ◌∙◌, sym, ap, subst⁻¹}
-use mathlib.Core.Bool.{Bool, true, false, ◌&&◌, cond}
+use mathlib.Core.Bool.{Bool, true, false, ◌&&◌}
 use mathlib.Core.List.{List, [], ◌∷◌, ◌++◌, append-nil}
 use mathlib.Core.Option.{Option, none, some}
 use native.Mathlib.Omega.{arith}
@@ -24,18 +24,19 @@ use Rattle.notation.specs.Hearing.{draft_of}
 use Rattle.notation.specs.Names.{is_found, too_deep}
 use Rattle.notation.specs.Reading.{plan_says, text_reach}
 use Rattle.notation.proofs.Classes.{choose-class}
+use Rattle.std.specs.Prelude.{Err}
 use Rattle.recognise.specs.declared.Ahead.{Ahead}
-use Rattle.recognise.specs.declared.Stepped.{Stepped}
-use Rattle.recognise.specs.declared.Taken.{Taken}
+use Rattle.recognise.specs.declared.taking.Halt.{Halt}
+use Rattle.recognise.specs.declared.taking.Halt.TheVariants as halt
 use Rattle.recognise.specs.declared.Counts.{Counts}
 use Rattle.recognise.specs.Positions as Positions
 use Rattle.recognise.specs.Positions.{Bottom, lists, body, expression, position_at, tower, closer, parentheses}
-use Rattle.recognise.specs.Steps.{most, step_of}
-use Rattle.recognise.specs.Taking.{taken_as, taken_by, taken_of}
+use Rattle.recognise.specs.Steps.{Stepped, most, step_of}
+use Rattle.recognise.specs.Taking.{taken_by, taken_of}
 use Rattle.recognise.specs.Hears as Hears
 use Rattle.recognise.specs.Hears.{Stands, piece, rear_item, below, items_of}
 use Rattle.recognise.specs.Recognised.{place_of, refused_at, accepted_as, recognised_by, recognised_of}
-use Rattle.recognise.specs.Reaching.{empty_at, tallied, viable_from, reached_by, Lies}
+use Rattle.recognise.specs.Reaching.{whole_at, empty_at, tallied, viable_from, reached_by, Lies}
 use Rattle.recognise.proofs.Claims.{listing}
 use Rattle.recognise.proofs.Claimed.{listed}
 use Rattle.recognise.proofs.ClassSmall.{class-below}
@@ -44,7 +45,8 @@ use Rattle.recognise.proofs.Stepping.{Right, step_right}
 use Rattle.recognise.proofs.Pieces.{slice-part}
 use Rattle.recognise.proofs.CountLaws.{counts_of, pending_weight}
 use Rattle.recognise.proofs.NothingPending.{nothing-pending}
-use Rattle.recognise.proofs.ViableLaws.{reached-done, reached-broken, reached-token}
+use mathlib.Core.Bool.{false≢true}
+use Rattle.recognise.proofs.Takings.{taken-err}
 use Rattle.recognise.proofs.ViableHere.{viable-here, viable-nowhere}
 use Rattle.recognise.proofs.Following.{Following, after_heard}
 
@@ -55,11 +57,6 @@ both_first false b h = h
 pub both-second : (a b : Bool) → a && b ≡ true → b ≡ true
 both-second true b h = h
 both-second false b h = cc
-
-pub not-both : (a b : Bool) → a ≡ true → b ≡ true → a && b ≡ false → ⊥
-not-both true true h g e = let z : ◌≡◌ {A = ℕ} 0 1 = cc in omega arith
-not-both true false h g e = let z : ◌≡◌ {A = ℕ} 0 1 = cc in omega arith
-not-both false b h g e = let z : ◌≡◌ {A = ℕ} 0 1 = cc in omega arith
 
 -- nothing is to come exactly where no list is open after the end of a node
 empty-items : (m : List ℕ) (a : Ahead) → empty_at a ≡ true → items_of m a ≡ []
@@ -109,38 +106,41 @@ tallied-as d e =
     let p : length d.entries + pending_weight d.pending ≡ length d.entries = (let z = ap pending_weight e in omega arith) in
     λ i. record { accepted = true; reach = 0; deep = is_found (too_deep d.nodes); place = place_of (too_deep d.nodes); nodes = length d.nodes; entries = p i; variables = length d.variables; lookups = length d.lookups; commands = length d.commands }
 
--- what a kind tells of the text
-kind-by : (u : List ℕ) (a : Ahead) (x : Next) (r : Taken) → r ≡ taken_by u a x → r.kind ≡ 0 → x ≡ done
-unfolding taken_by taken_as
-kind-by u a done r e h = refl
-kind-by u a (broken k) r e h = absurd (let z : r.kind ≡ 2 = ap (λ (t : Taken). t.kind) e in omega arith)
-kind-by u a (token from to) r e h = absurd (go (step_of a (class_of (slice from to u))).ok (sym (ap (λ (t : Taken). t.kind) e) ∙ h))
-  where
-    go : (b : Bool) → ◌≡◌ {A = ℕ} (cond b 1 3) 0 → ⊥
-    go true z = omega arith
-    go false z = omega arith
+-- what a text tells that has no token more
+done-by : (u : List ℕ) (a : Ahead) (x : Next) → Err halt.Done ≡ taken_by u a x → x ≡ done
+unfolding taken_by
+done-by u a done e = refl
+done-by u a (broken k) e = cc
+done-by u a (token from to) e = let p = (taken-err from to (step_of a (class_of (slice from to u))) halt.Done e).1 in cc
 
 none-picked : (o : Option (Row Sort Saying)) (s : List (Item Sort)) (r : Stepped) → Right o s r → r.ok ≡ false → o ≡ none
 none-picked none s r f h = refl
 none-picked (some x) s r f h = absurd (let z : true ≡ false = sym f.0 ∙ h in let y : ◌≡◌ {A = ℕ} 0 1 = cc in omega arith)
 
-refused-ok : (b : Bool) → (◌≡◌ {A = ℕ} (cond b 1 3) 1 → ⊥) → b ≡ false
-refused-ok true h = absurd (h refl)
-refused-ok false h = refl
+-- what the end of a text tells
+pub whole-told : (h : Halt) (a : Ahead) → whole_at h a ≡ true → (h ≡ halt.Done) × (empty_at a ≡ true)
+unfolding whole_at
+whole-told halt.Done a e = (refl, e)
+whole-told (halt.Broken b) a e = absurd (false≢true e)
+whole-told (halt.Refused t) a e = absurd (false≢true e)
+
+pub not-whole : (h : Halt) (a : Ahead) → whole_at h a ≡ false → h ≡ halt.Done → empty_at a ≡ true → ⊥
+unfolding whole_at
+not-whole h a w e f = false≢true (sym w ∙ ap (λ (x : Halt). whole_at x a) e ∙ f)
 
 module _ (u : List ℕ) (small : length u < 18446744073709551616) (n : ℕ) (a : Ahead) (c : Counts) (g : Following u n a c) where
   -- the text says what has been heard
-  pub follow-says : (r : Taken) → r ≡ taken_of u n a → r.kind ≡ 0 → empty_at a ≡ true → plan_says u ≡ some g.heard
+  pub follow-says : Err halt.Done ≡ taken_of u n a → empty_at a ≡ true → plan_says u ≡ some g.heard
   unfolding taken_of after_heard
-  follow-says r t h e =
-      let d = kind-by u a (token_at u n) r t h in
+  follow-says t e =
+      let d = done-by u a (token_at u n) t in
       let i : g.items ≡ [] = sym g.stands.items ∙ empty-items g.stands.had a e in
       g.says ∙ ap (λ (s : List (Item Sort)). after_heard g.heard (says_from notation s u n)) i ∙ ap (after_heard g.heard) (says-done notation u n d) ∙ ap some (append-nil g.heard)
 
-  pub follow-accepted : (r : Taken) → r ≡ taken_of u n a → r.kind ≡ 0 → empty_at a ≡ true → tallied c ≡ recognised_of u
+  pub follow-accepted : Err halt.Done ≡ taken_of u n a → empty_at a ≡ true → tallied c ≡ recognised_of u
   unfolding recognised_of recognised_by draft_of
-  follow-accepted r t h e =
-      let p = follow-says r t h e in
+  follow-accepted t e =
+      let p = follow-says t e in
       ap tallied g.counts ∙ tallied-as (draft_of g.heard) (nothing-pending u g.heard p) ∙ ap (λ (o : Option (List (Said Saying))). recognised_by o u) (sym p)
 
   -- how much of a token is viable here
@@ -183,18 +183,22 @@ module _ (u : List ℕ) (small : length u < 18446744073709551616) (n : ℕ) (a :
               ∙ ap (λ (q : Option (Row Sort Saying)). on_said notation (token_in u from to) q (λ z. says_from notation (z.rest ++ s) u to)) p,
         )
 
-  lies-by : (x : Next) → token_at u n ≡ x → (r : Taken) → r ≡ taken_by u a x → Lies u r a
-  unfolding taken_by taken_as Lies
-  lies-by done h r e = λ p q. absurd (p (ap (λ (t : Taken). t.kind) e))
-  lies-by (broken k) h r e = λ p q. absurd (q (ap (λ (t : Taken). t.kind) e))
-  lies-by (token from to) h r e =
-      let t = token-at u n from to h in
-      subst⁻¹ (λ (x : Taken). Lies u x a) e
-      (λ p q. record { ordered = omega (arith, t.some); high = t.high; counted = omega (arith, t.some, t.high, viable-few from to h g.items g.stands) })
+  lies-by : (x : Next) → token_at u n ≡ x → (h : Halt) → Err h ≡ taken_by u a x → Lies u h a
+  unfolding taken_by Lies
+  lies-by done w halt.Done e = tt
+  lies-by done w (halt.Broken b) e = tt
+  lies-by done w (halt.Refused t) e = cc
+  lies-by (broken k) w halt.Done e = tt
+  lies-by (broken k) w (halt.Broken b) e = tt
+  lies-by (broken k) w (halt.Refused t) e = cc
+  lies-by (token from to) w h e =
+      let t = token-at u n from to w in
+      subst⁻¹ (λ (x : Halt). Lies u x a) (taken-err from to (step_of a (class_of (slice from to u))) h e).1
+      (record { ordered = omega (arith, t.some); high = t.high; counted = omega (arith, t.some, t.high, viable-few from to w g.items g.stands) })
 
-  pub follow-lies : (r : Taken) → r ≡ taken_of u n a → Lies u r a
+  pub follow-lies : (h : Halt) → Err h ≡ taken_of u n a → Lies u h a
   unfolding taken_of
-  follow-lies r t = lies-by (token_at u n) refl r t
+  follow-lies h e = lies-by (token_at u n) refl h e
 
   finish : (k : ℕ) → plan_says u ≡ none → text_reach u ≡ k → refused_at k ≡ recognised_of u
   unfolding recognised_of recognised_by
@@ -208,24 +212,19 @@ module _ (u : List ℕ) (small : length u < 18446744073709551616) (n : ℕ) (a :
   short h [] w e = absurd (e (items-empty a w))
   short h (i ∷ s) w e = says-short notation u n i s h
 
-  refused-by : (x : Next) → token_at u n ≡ x → (r : Taken) → r ≡ taken_by u a x → (r.kind ≡ 1 → ⊥) → (r.kind ≡ 0 → empty_at a ≡ true → ⊥) → refused_at (reached_by u r a) ≡ recognised_of u
-  unfolding taken_by taken_as
-  refused-by done h r e p q =
-      let k : r.kind ≡ 0 = ap (λ (t : Taken). t.kind) e in
-      finish (reached_by u r a) (silent (short h g.items g.stands (q k))) (g.reaches ∙ reach-done notation u n g.items g.inside h ∙ reached-done u r a k)
-  refused-by (broken b) h r e p q =
-      let k : r.kind ≡ 2 = ap (λ (t : Taken). t.kind) e in
-      finish (reached_by u r a) (silent (says-broken notation u n g.items b h))
-      (g.reaches ∙ reach-broken notation u n g.items b h ∙ sym (ap (λ (t : Taken). t.to) e) ∙ reached-broken u r a (λ z. omega arith) k)
-  refused-by (token from to) h r e p q =
-      let o = refused-ok (step_of a (class_of (slice from to u))).ok (λ z. p (ap (λ (t : Taken). t.kind) e ∙ z)) in
-      let x = stops from to h g.items g.stands o in
-      let k : r.kind ≡ 3 = ap (λ (t : Taken). t.kind) e ∙ ap (λ (b : Bool). cond b 1 3) o in
-      finish (reached_by u r a) (silent x.1)
-      (g.reaches ∙ x.0
-      ∙ ap (λ (t : Taken). t.from + viable_from (piece u t.from t.to) a 0 76) (sym e)
-      ∙ reached-token u r a (λ z. omega arith) (λ z. omega arith) refl)
+  refused-by : (x : Next) → token_at u n ≡ x → (h : Halt) → Err h ≡ taken_by u a x → (h ≡ halt.Done → empty_at a ≡ true → ⊥) → refused_at (reached_by u h a) ≡ recognised_of u
+  unfolding taken_by reached_by
+  refused-by done w h e q =
+      let k : h ≡ halt.Done = cc in
+      rw k (finish (length u) (silent (short w g.items g.stands (q k))) (g.reaches ∙ reach-done notation u n g.items g.inside w))
+  refused-by (broken b) w h e q =
+      let k : h ≡ halt.Broken (record { to = b }) = cc in
+      rw k (finish b (silent (says-broken notation u n g.items b w)) (g.reaches ∙ reach-broken notation u n g.items b w))
+  refused-by (token from to) w h e q =
+      let o = taken-err from to (step_of a (class_of (slice from to u))) h e in
+      let x = stops from to w g.items g.stands o.0 in
+      rw o.1 (finish (from + viable_from (piece u from to) a 0 76) (silent x.1) (g.reaches ∙ x.0))
 
-  pub follow-refused : (r : Taken) → r ≡ taken_of u n a → (r.kind ≡ 1 → ⊥) → (r.kind ≡ 0 → empty_at a ≡ true → ⊥) → refused_at (reached_by u r a) ≡ recognised_of u
+  pub follow-refused : (h : Halt) → Err h ≡ taken_of u n a → (h ≡ halt.Done → empty_at a ≡ true → ⊥) → refused_at (reached_by u h a) ≡ recognised_of u
   unfolding taken_of
-  follow-refused r t h e = refused-by (token_at u n) refl r t h e
+  follow-refused h e q = refused-by (token_at u n) refl h e q

@@ -25,7 +25,7 @@ use Rattle.recognise.specs.Recognised.{place_of}
 use Rattle.notation.proofs.Classes.{choose-class}
 use Rattle.notation.proofs.Spoken.{hear-append}
 use Rattle.recognise.specs.declared.Ahead.{Ahead}
-use Rattle.recognise.specs.declared.Taken.{Taken}
+use Rattle.recognise.specs.declared.taking.Taken.{Taken}
 use Rattle.recognise.specs.declared.Counts.{Counts}
 use Rattle.recognise.specs.Codes.{say_of}
 use Rattle.recognise.specs.Positions as Positions

@@ -18,14 +18,15 @@ use Rattle.notation.specs.Rows.{Sort, notation}
 use Rattle.notation.specs.Spoken.{spoken}
 use Rattle.notation.specs.Classes.{class_of, pick_class}
 use Rattle.notation.proofs.Classes.{choose-class}
+use Rattle.std.specs.Prelude.{Err}
 use Rattle.recognise.specs.declared.Ahead.{Ahead}
-use Rattle.recognise.specs.declared.Move.{Move}
-use Rattle.recognise.specs.declared.Stepped.{Stepped}
 use Rattle.recognise.specs.Codes.{say_of}
-use Rattle.recognise.specs.Tables.{row_of}
-use Rattle.recognise.specs.Steps.{Effect, refuses, goes_on, begins_node, begins_in_list, closes_list, opens_list, assigns, opens_paren, ends, closes_paren, marks, effect_of, most, moved, step_of}
-use Rattle.recognise.specs.declared.Taken.{Taken}
-use Rattle.recognise.specs.Taking.{taken_as, taken_by, taken_of}
+use Rattle.recognise.specs.Tables.{Move, row_of}
+use mathlib.Core.Bool.{false≢true}
+use Rattle.recognise.proofs.Takings.{taken-err}
+use Rattle.recognise.specs.Steps.{Stepped, Effect, refuses, goes_on, begins_node, begins_in_list, closes_list, opens_list, assigns, opens_paren, ends, closes_paren, marks, effect_of, most, moved, step_of}
+use Rattle.recognise.specs.declared.taking.Halt.{Halt}
+use Rattle.recognise.specs.Taking.{taken_by, taken_of}
 use Rattle.recognise.specs.Hears.{Stands, Hearing}
 use Rattle.recognise.proofs.ClassSmall.{class-below}
 use Rattle.recognise.proofs.ItemsKnown.{first-known}
@@ -119,13 +120,13 @@ module _ (u : List ℕ) (small : length u < 18446744073709551616) (n : ℕ) (a :
   done-by h [] e = let z : g.sayings ≡ [] = cc (says-done notation u n h) in sym g.heard ∙ ap spoken z
   done-by h (i ∷ s) e = absurd (never (sym (says-short notation u n i s h) ∙ e))
 
-  ends-by : (x : Next) → token_at u n ≡ x → ((taken_by u a x).kind ≡ 1 → ⊥) → l ≡ []
-  unfolding taken_by taken_as
-  ends-by done h f = done-by h g.items g.says
-  ends-by (broken k) h f = absurd (never (sym (says-broken notation u n g.items k h) ∙ g.says))
-  ends-by (token from to) h f = absurd (f (ap (λ (b : Bool). cond b 1 3) (hear-token u small n a l from to h g).ok))
+  ends-by : (x : Next) → token_at u n ≡ x → (o : Halt) → Err o ≡ taken_by u a x → l ≡ []
+  unfolding taken_by
+  ends-by done h o f = done-by h g.items g.says
+  ends-by (broken k) h o f = absurd (never (sym (says-broken notation u n g.items k h) ∙ g.says))
+  ends-by (token from to) h o f = absurd (false≢true (sym (taken-err from to (step_of a (class_of (slice from to u))) o f).0 ∙ (hear-token u small n a l from to h g).ok))
 
   -- where no token can come, nothing more is heard
-  pub hear-ends : (r : Taken) → r ≡ taken_of u n a → (r.kind ≡ 1 → ⊥) → l ≡ []
+  pub hear-ends : (o : Halt) → Err o ≡ taken_of u n a → l ≡ []
   unfolding taken_of
-  hear-ends r e f = ends-by (token_at u n) refl (λ k. f (ap (λ (t : Taken). t.kind) e ∙ k))
+  hear-ends o e = ends-by (token_at u n) refl o e

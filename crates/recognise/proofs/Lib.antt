@@ -26,3 +26,4 @@ pub mod Following
 pub mod FollowEnds
 pub mod Aptness
 pub mod FewSaid
+pub mod Stepped

@@ -1,17 +1,13 @@
 -- The rows by position and class as the code finds them, and the bounds of the tables.
 use Prim.Native.Nat.{ℕ, zero, suc, ◌+◌, ◌<◌, ◌≤◌}
-use mathlib.Core.Path.{◌≡◌, refl, ◌∙◌, sym, ap}
+use mathlib.Core.Path.{◌≡◌, refl}
 use mathlib.Core.Bool.{Bool, true, false, ◌&&◌}
 use mathlib.Core.List.{List, [], ◌∷◌}
 use native.Mathlib.Omega.{arith}
 use lib.ListN.{get_or}
 use lib.Dec.{leb}
 use borrow.Author.Tests.{eq-eqb, ne_eqb, lt-ltb, le-ltb, leb-true}
-use Rattle.recognise.specs.declared.Ahead.{Ahead}
-use Rattle.recognise.specs.declared.Move.{Move}
-use Rattle.recognise.specs.declared.Stepped.{Stepped}
 use Rattle.recognise.specs.Tables.{bases, owners, say_numbers, nexts, refusal, row_at, row_of}
-use Rattle.recognise.specs.Steps.{Effect, effect_of, moved, step_of}
 
 -- each number of the list is at most n
 unfoldable pub at_most : ℕ → List ℕ → Bool
@@ -56,11 +52,6 @@ module _ (p k : ℕ) where
   pub row-own : p < 78 → k < 76 → {b o : ℕ} → b ≡ get_or bases p 0 → o ≡ get_or owners (b + k) 0 → o ≡ p → row_at (b + k) ≡ row_of p k
   unfolding row_of
   row-own h g {b} {o} e f n = simp (lt-ltb p 78 h, lt-ltb k 76 g, ← e, ← f, eq-eqb o p n)
-
--- a step by the row's effect
-pub step_by : (a : Ahead) (k : ℕ) {m : Move} (x : Effect) {r : Stepped} → m ≡ row_of a.at k → effect_of m.effect ≡ x → r ≡ moved a m x → r ≡ step_of a k
-unfolding step_of
-step_by a k {m} x {r} h e g = g ∙ ap (moved a m) (sym e) ∙ ap (λ (n : Move). moved a n (effect_of n.effect)) h
 
 pub next_small : (i : ℕ) → get_or nexts i 0 ≤ 77
 unfolding nexts at_most

@@ -13,11 +13,10 @@ use borrow.Author.Tests.{ne_eqb, lt-ltb, eqb-true, eqb-false}
 use Rattle.grammar.specs.Table.{Item, lit, sort}
 use Rattle.notation.specs.Rows.{bracket, Sort, nodes, attributes, operator, met}
 use Rattle.recognise.specs.declared.Ahead.{Ahead}
-use Rattle.recognise.specs.declared.Move.{Move}
-use Rattle.recognise.specs.declared.Stepped.{Stepped}
 use Rattle.recognise.specs.Codes.{say_of}
 use Rattle.recognise.specs.Positions.{Bottom, lists, body, expression, Position, position_at, positions, operator_at, body_at, brace_at, tower, closer, parentheses}
-use Rattle.recognise.specs.Steps.{goes_on, begins_node, begins_in_list, closes_list, opens_list, assigns, opens_paren, ends, closes_paren, marks, unmarked, most, went, rear_at, moved}
+use Rattle.recognise.specs.Tables.{Move}
+use Rattle.recognise.specs.Steps.{Stepped, goes_on, begins_node, begins_in_list, closes_list, opens_list, assigns, opens_paren, ends, closes_paren, marks, unmarked, most, went, rear_at, moved}
 use Rattle.recognise.specs.Hears.{Marks, rear_item, below, items_of, Stands}
 use Rattle.recognise.proofs.Claims.{Outcome, stub, shown, alike, as_lists, as_body, as_expression, in_lists', in_expression, ends_by, closes_by, given, saying, unless}
 

@@ -13,12 +13,10 @@ use Rattle.notation.specs.Sayings.{Saying}
 use Rattle.notation.specs.Rows.{Sort, nodes, attributes, rows, met, notation}
 use Rattle.notation.specs.Classes.{pick_class}
 use Rattle.recognise.specs.declared.Ahead.{Ahead}
-use Rattle.recognise.specs.declared.Move.{Move}
-use Rattle.recognise.specs.declared.Stepped.{Stepped}
 use Rattle.recognise.specs.Codes.{say_of}
 use Rattle.recognise.specs.Positions.{Bottom, lists, body, expression, at, position_at, operator_at, tower, closer}
-use Rattle.recognise.specs.Tables.{row_of}
-use Rattle.recognise.specs.Steps.{Effect, refuses, goes_on, begins_node, begins_in_list, closes_list, opens_list, assigns, opens_paren, ends, closes_paren, marks, effect_of, most, moved, step_of}
+use Rattle.recognise.specs.Tables.{Move, row_of}
+use Rattle.recognise.specs.Steps.{Stepped, Effect, refuses, goes_on, begins_node, begins_in_list, closes_list, opens_list, assigns, opens_paren, ends, closes_paren, marks, effect_of, most, moved, step_of}
 use Rattle.recognise.specs.Hears.{Marks, below, items_of, Stands}
 use Rattle.recognise.proofs.Claims.{Outcome, made, stub, saying, unless, only_once, given, expected_in_front, expected_in_lists, expected_in_body, expected, tabled, reached_at, where_of}
 use Rattle.recognise.proofs.Found.{after, found-free, found-attributes}

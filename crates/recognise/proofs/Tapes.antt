@@ -18,7 +18,7 @@ use Rattle.notation.specs.Spoken.{is_silent, spoken}
 use Rattle.notation.specs.Reading.{plan_says}
 use Rattle.notation.proofs.Spoken.{spoken-append}
 use Rattle.recognise.specs.declared.Recognised.{Recognised}
-use Rattle.recognise.specs.declared.Taken.{Taken}
+use Rattle.recognise.specs.declared.taking.Taken.{Taken}
 use Rattle.recognise.specs.Codes as Codes
 use Rattle.recognise.specs.Codes.{say_of}
 use Rattle.recognise.specs.Hears.{Narrow, Brief, piece}

@@ -17,8 +17,7 @@ use Rattle.notation.specs.Classes.{pick_class}
 use Rattle.notation.proofs.Classes.{item-known}
 use Rattle.words.specs.Viable.{viable_class}
 use Rattle.recognise.specs.declared.Ahead.{Ahead}
-use Rattle.recognise.specs.declared.Stepped.{Stepped}
-use Rattle.recognise.specs.Steps.{most, step_of}
+use Rattle.recognise.specs.Steps.{Stepped, most, step_of}
 use Rattle.recognise.specs.Hears.{Stands}
 use Rattle.recognise.specs.Reaching.{more_of, viable_from}
 use Rattle.recognise.proofs.ItemsKnown.{first-known}

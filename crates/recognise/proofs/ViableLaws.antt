@@ -1,58 +1,55 @@
 -- The loop over the classes, and the arms of the reach.
-use Prim.Native.Nat.{ℕ, suc, ◌+◌, ◌-◌, ◌<◌, ◌≤◌}
+use Rattle.std.specs.Prelude.{Some, None}
+use native.Mathlib.Numerals.{add-one}
+use Rattle.std.proofs.lemmas.Bool.Decides.{nat_tests}
+use lib.Dec.{ltb}
+use mathlib.Core.Logic.{inl, inr}
+use Rattle.std.proofs.lemmas.Bool.{cases_lt}
+use mathlib.Core.Bool.{Bool, cond}
+use Rattle.recognise.specs.Replies.{came}
+use Rattle.recognise.proofs.Takings.{came-some, came-none}
+use Prim.Native.Nat.{ℕ, zero, suc, max, ◌+◌}
 use mathlib.Core.Path.{◌≡◌, refl, ◌∙◌, sym, ap}
 use mathlib.Core.Bool.{true, false}
-use mathlib.Core.List.{List}
 use native.Mathlib.Omega.{arith}
-use lib.ListN.{length}
-use borrow.Author.Tests.{eq-eqb, ne_eqb, lt-ltb, le-ltb}
+use borrow.Author.Tests.{lt-ltb, le-ltb}
 use Rattle.grammar.specs.Spelling.{Token}
 use Rattle.words.specs.Viable.{viable_class}
 use Rattle.recognise.specs.declared.Ahead.{Ahead}
-use Rattle.recognise.specs.declared.Stepped.{Stepped}
-use Rattle.recognise.specs.declared.Taken.{Taken}
+use Rattle.recognise.specs.declared.steps.Went.{Went}
 use Rattle.recognise.specs.Steps.{step_of}
-use Rattle.recognise.specs.Hears.{piece}
-use Rattle.recognise.specs.Reaching.{more_of, viable_from, reached_by}
+use Rattle.recognise.specs.Reaching.{more_of, viable_from}
 
-module _ (t : Token) (a : Ahead) (n k : ℕ) {s : Stepped} (e : s ≡ step_of a k) where
-  pub more-none : s.ok ≡ false → n ≡ more_of t a n k
+module _ (t : Token) (a : Ahead) (n k : ℕ) where
+  pub more-none : None ≡ came (step_of a k) → n ≡ more_of t a n k
   unfolding more_of
-  more-none h = rw (← e, h)
+  more-none h = rw (came-none (step_of a k) h) refl
 
-  pub more-more : s.ok ≡ true → {v : ℕ} → v ≡ viable_class k t → n < v → v ≡ more_of t a n k
+  pub more-some : {x : Went} → Some x ≡ came (step_of a k) → {v : ℕ} → v ≡ viable_class k t → max n v ≡ more_of t a n k
   unfolding more_of
-  more-more h {v} f g = rw (← e, h, ← f, lt-ltb n v g)
+  more-some {x} h {v} f = rw ((came-some (step_of a k) x h).0, ← f) (elim (cases_lt n v) [ inl l ↦ rw (lt-ltb n v l) (omega arith) | inr l ↦ rw (le-ltb n v l) (omega arith) ])
 
-  pub more-less : s.ok ≡ true → {v : ℕ} → v ≡ viable_class k t → v ≤ n → n ≡ more_of t a n k
-  unfolding more_of
-  more-less h {v} f g = rw (← e, h, ← f, le-ltb n v g)
+-- the order of the classes does not tell
+more-swaps : (t : Token) (a : Ahead) (n j k : ℕ) → more_of t a (more_of t a n j) k ≡ more_of t a (more_of t a n k) j
+unfolding more_of
+more-swaps t a n j k = go (step_of a j).ok (step_of a k).ok (viable_class j t) (viable_class k t)
+  where
+    go : (p q : Bool) (x y : ℕ) → cond q (cond (ltb (cond p (cond (ltb n x) x n) n) y) y (cond p (cond (ltb n x) x n) n)) (cond p (cond (ltb n x) x n) n)
+        ≡ cond p (cond (ltb (cond q (cond (ltb n y) y n) n) x) x (cond q (cond (ltb n y) y n) n)) (cond q (cond (ltb n y) y n) n)
+    go true true x y = grind (arith, nat_tests)
+    go true false x y = refl
+    go false true x y = refl
+    go false false x y = refl
 
-viable-suc : (t : Token) (a : Ahead) (m k : ℕ) → viable_from t a (more_of t a m k) k ≡ viable_from t a m (suc k)
+viable-more : (t : Token) (a : Ahead) (n j k : ℕ) → viable_from t a (more_of t a n j) k ≡ more_of t a (viable_from t a n k) j
 unfolding viable_from
-viable-suc t a m k = refl
+viable-more t a n j zero = refl
+viable-more t a n j (suc k) = ap (λ m. viable_from t a m k) (more-swaps t a n j k) ∙ viable-more t a (more_of t a n k) j k
 
-pub viable-step : (t : Token) (a : Ahead) (m k : ℕ) {j : ℕ} → 0 < k → j ≡ more_of t a m (k - 1) → (x : ℕ) → viable_from t a m k ≡ x → viable_from t a j (k - 1) ≡ x
-viable-step t a m k {j} h e x f =
-    let z : k ≡ suc (k - 1) = omega arith in
-    ap (λ (i : ℕ). viable_from t a i (k - 1)) e ∙ viable-suc t a m (k - 1) ∙ ap (viable_from t a m) (sym z) ∙ f
-
-viable-zero : (t : Token) (a : Ahead) (m : ℕ) → m ≡ viable_from t a m 0
+pub viable-zero : (t : Token) (a : Ahead) (n : ℕ) → n ≡ viable_from t a n 0
 unfolding viable_from
-viable-zero t a m = refl
+viable-zero t a n = refl
 
-pub viable-end : (t : Token) (a : Ahead) (m k x : ℕ) → k ≤ 0 → viable_from t a m k ≡ x → m ≡ x
-viable-end t a m k x h f = let z : 0 ≡ k = omega arith in viable-zero t a m ∙ ap (viable_from t a m) z ∙ f
-
-module _ (u : List ℕ) (t : Taken) (a : Ahead) where
-  pub reached-done : t.kind ≡ 0 → length u ≡ reached_by u t a
-  unfolding reached_by
-  reached-done h = rw (eq-eqb t.kind 0 h)
-
-  pub reached-broken : (t.kind ≡ 0 → ⊥) → t.kind ≡ 2 → t.to ≡ reached_by u t a
-  unfolding reached_by
-  reached-broken h g = rw (ne_eqb t.kind 0 h, eq-eqb t.kind 2 g)
-
-  pub reached-token : (t.kind ≡ 0 → ⊥) → (t.kind ≡ 2 → ⊥) → {v : ℕ} → v ≡ viable_from (piece u t.from t.to) a 0 76 → t.from + v ≡ reached_by u t a
-  unfolding reached_by
-  reached-token h g {v} e = rw (ne_eqb t.kind 0 h, ne_eqb t.kind 2 g, e)
+pub viable-next : (t : Token) (a : Ahead) (m k r : ℕ) → m ≡ viable_from t a 0 k → r ≡ more_of t a m k → r ≡ viable_from t a 0 (k + 1)
+unfolding viable_from
+viable-next t a m k r e f = f ∙ ap (λ x. more_of t a x k) e ∙ sym (viable-more t a 0 k k) ∙ ap (viable_from t a 0) (sym (add-one k))

@@ -10,3 +10,4 @@ pub mod Recognised
 pub mod Room
 pub mod Reaching
 pub mod Aptness
+pub mod Replies

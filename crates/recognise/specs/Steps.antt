@@ -1,10 +1,14 @@
 -- One token more: what the row that it begins does to what is still to come.
-use Rattle.std.specs.Prelude.{ℕ, ◌+◌, ◌-◌, true, false, cond, List, [], ◌∷◌, get_or, set, eqb, ltb}
+use Rattle.std.specs.Prelude.{ℕ, ◌+◌, ◌-◌, Bool, true, false, cond, List, [], ◌∷◌, get_or, set, eqb, ltb}
 use Rattle.recognise.specs.declared.Ahead.{Ahead}
-use Rattle.recognise.specs.declared.Move.{Move}
-use Rattle.recognise.specs.declared.Stepped.{Stepped}
 use Rattle.recognise.specs.Positions.{body_at, brace_at}
-use Rattle.recognise.specs.Tables.{row_of}
+use Rattle.recognise.specs.Tables.{Move, row_of}
+
+-- whether a token can come, what it says, and what is to come after it
+pub record Stepped : Type 0 where
+  pub next : Ahead
+  pub ok : Bool
+  pub says : ℕ
 
 -- what a row does to the counts
 pub data Effect : Type 0 where

@@ -1,6 +1,11 @@
 -- The rows of the grammar by position and class of token, as the code has them: one list holds the rows of all positions, each at its base.
 use Rattle.std.specs.Prelude.{ℕ, ◌+◌, cond, List, [], ◌∷◌, get_or, eqb, ltb}
-use Rattle.recognise.specs.declared.Move.{Move}
+
+-- a row: what it does to the counts, the number of what its token says, and the position that follows
+pub record Move : Type 0 where
+  pub effect : ℕ
+  pub says : ℕ
+  pub next : ℕ
 
 -- where the rows of a position begin: the row of a class stands at the base and the class
 unfoldable pub bases : List ℕ

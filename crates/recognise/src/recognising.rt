@@ -2,17 +2,24 @@
 ghost use Rattle.std.specs.Prelude.{◌≡◌, length};
 ghost use Rattle.recognise.specs.Recognised.{refused_at, recognised_of};
 ghost use Rattle.recognise.specs.Tape.{Tape};
-ghost use Rattle.recognise.specs.Reaching.{empty_at, tallied, viable_from, more_of, reached_by, Lies};
+ghost use Rattle.recognise.specs.Reaching.{whole_at, tallied, viable_from, more_of, reached_by, Lies};
 
 use super::counting::count;
+use super::steps::{start, step};
+use super::taking::{Halt, take};
 use super::tape::{keep, seal};
-use super::{Ahead, Counts, Recognised, Taken, start, step, take};
+use super::{Ahead, Counts, Recognised};
 
-// Nothing is to come.
-fn is_empty(a: Ahead) -> bool
-    ensures { result ≡ empty_at a }
+// The text has no token more, and nothing is to come.
+#[tactic(auto, unfolding(crate::specs::Reaching::whole_at))]
+fn is_whole(halt: Halt, a: Ahead) -> bool
+    ensures { result ≡ whole_at halt a }
 {
-    (a.at == 1) & (a.lists == 0)
+    match halt {
+        Halt::Done => (a.at == 1) & (a.lists == 0),
+        Halt::Broken(_) => false,
+        Halt::Refused(_) => false,
+    }
 }
 
 fn refused_at(reach: usize) -> Recognised
@@ -51,14 +58,10 @@ fn accepted_as(c: Counts) -> Recognised
 fn more_of(t: &[u8], a: Ahead, most: usize, class: u8) -> usize
     ensures { result ≡ more_of t.now a most class }
 {
-    let s = step(a, class);
-    if s.ok {
-        let n = words::viable(class, t);
-        if most < n {
-            return n;
-        }
+    match step(a, class) {
+        Some(_) => most.max(words::viable(class, t)),
+        None => most,
     }
-    most
 }
 
 // How much of a token can begin one that can come: the most over the classes.
@@ -66,28 +69,22 @@ fn viable_at(t: &[u8], a: Ahead) -> usize
     ensures { result ≡ viable_from t.now a 0 76 }
 {
     let mut most = 0;
-    let mut k: u8 = 76;
-    while k > 0 {
-        k -= 1;
+    for k in 0..76 {
         most = more_of(t, a, most, k);
     }
     most
 }
 
 // How far a text is viable that ends, breaks or cannot go on with the token.
-fn reach_of(text: &[u8], t: Taken, a: Ahead) -> usize
-    requires { Lies text.now t a }
-    ensures { result ≡ reached_by text.now t a }
+fn reach_of(text: &[u8], halt: Halt, a: Ahead) -> usize
+    requires { Lies text.now halt a }
+    ensures { result ≡ reached_by text.now halt a }
 {
-    if t.kind == 0 {
-        return text.len();
+    match halt {
+        Halt::Done => text.len(),
+        Halt::Broken(b) => b.to,
+        Halt::Refused(t) => t.from + viable_at(&text[t.from..t.to], a),
     }
-    if t.kind == 2 {
-        return t.to;
-    }
-    let from = t.from;
-    let to = t.to;
-    from + viable_at(&text[from..to], a)
 }
 
 // What the text says is kept on the tape behind the owners.
@@ -109,17 +106,20 @@ pub fn recognise(text: &[u8], owner: &mut [usize; 10525]) -> Recognised
         place: 0,
     };
     loop {
-        let t = take(text, at, ahead);
-        if t.kind != 1 {
-            if (t.kind == 0) & is_empty(ahead) {
-                seal(owner, sayings);
-                return accepted_as(n);
+        match take(text, at, ahead) {
+            Ok(t) => {
+                n = count(n, t.says, t.from);
+                sayings = keep(owner, sayings, t.says, t.from, t.to);
+                at = t.to;
+                ahead = t.next;
             }
-            return refused_at(reach_of(text, t, ahead));
+            Err(halt) => {
+                if is_whole(halt, ahead) {
+                    seal(owner, sayings);
+                    return accepted_as(n);
+                }
+                return refused_at(reach_of(text, halt, ahead));
+            }
         }
-        n = count(n, t.says, t.from);
-        sayings = keep(owner, sayings, t.says, t.from, t.to);
-        at = t.to;
-        ahead = t.next;
     }
 }

@@ -1,8 +1,33 @@
 // The rows of the grammar by position and class of token: one list holds the rows of all positions, each at its base.
 ghost use Rattle.std.specs.Prelude.{◌≡◌, ◌<◌, get_or};
 ghost use Rattle.recognise.specs.Tables.{bases, owners, row_at, row_of};
+ghost use Rattle.recognise.specs.Replies.{effect_code, row_told};
 
-use super::{Move, refusal};
+// What a row does to what is still to come.
+#[derive(Clone, Copy)]
+pub enum Effect {
+    GoesOn,
+    BeginsNode,
+    BeginsInList,
+    ClosesList,
+    OpensList,
+    Assigns,
+    OpensParen,
+    Ends,
+    ClosesParen,
+    // The attribute of the number, one of eight.
+    Marks(u8),
+}
+
+// A row: its effect, the number of what its token says, and the position that follows.
+#[derive(Clone, Copy)]
+pub struct Move {
+    pub effect: Effect,
+    pub says: u8,
+    pub next: u8,
+}
+
+// The tables hold numbers, as the definitions of the same lists in specs/Tables do.
 
 // Where the rows of a position begin: the row of a class stands at the base and the class.
 const BASES: [u8; 78] = [
@@ -71,6 +96,26 @@ const NEXTS: [u8; 270] = [
     0, 0, 0, 0, 0, 0,
 ];
 
+// What the row with the number does, if there is one.
+#[tactic(auto, unfolding(crate::specs::Replies::effect_code, crate::specs::Replies::plain_effects))]
+fn effect_code(e: u8) -> Option<Effect>
+    ensures { result ≡ effect_code e }
+{
+    match e {
+        1 => Some(Effect::GoesOn),
+        2 => Some(Effect::BeginsNode),
+        3 => Some(Effect::BeginsInList),
+        4 => Some(Effect::ClosesList),
+        5 => Some(Effect::OpensList),
+        6 => Some(Effect::Assigns),
+        7 => Some(Effect::OpensParen),
+        8 => Some(Effect::Ends),
+        9 => Some(Effect::ClosesParen),
+        10..=17 => Some(Effect::Marks(e - 10)),
+        _ => None,
+    }
+}
+
 fn base(at: usize) -> u8
     requires { at < 78 }
     ensures { result ≡ get_or bases at 0 }
@@ -85,30 +130,31 @@ fn owner(i: usize) -> u8
     OWNERS[i]
 }
 
-fn row_at(i: usize) -> Move
+fn row_at(i: usize) -> Option<Move>
     requires { i < 270 }
-    ensures { result ≡ row_at i }
+    ensures { result ≡ row_told (row_at i) }
 {
-    Move {
-        effect: EFFECTS[i],
+    let effect = effect_code(EFFECTS[i])?;
+    Some(Move {
+        effect,
         says: SAYS[i],
         next: NEXTS[i],
-    }
+    })
 }
 
-// The row of the position that a token of the class begins; its effect is 0 where there is none.
-pub fn row_of(at: u8, class: u8) -> Move
-    ensures { result ≡ row_of at class }
+// The row of the position that a token of the class begins, if there is one.
+pub fn row_of(at: u8, class: u8) -> Option<Move>
+    ensures { result ≡ row_told (row_of at class) }
 {
     if at >= 78 {
-        return refusal();
+        return None;
     }
     if class >= 76 {
-        return refusal();
+        return None;
     }
     let i = base(at as usize) as usize + class as usize;
     if owner(i) != at {
-        return refusal();
+        return None;
     }
     row_at(i)
 }

@@ -3,7 +3,9 @@
 ghost use Rattle.std.specs.Prelude.{◌≡◌, ◌<◌, ◌≤◌, ◌-◌, set};
 ghost use Rattle.recognise.specs.Tape.{packed, held_in, holding, sealed, Winds, Advanced, Begun};
 
-use super::{Cursor, advance, start};
+use super::Cursor;
+use super::steps::start;
+use super::taking::advance;
 
 // A saying and its token in one number.
 fn pack(says: u8, from: usize, to: usize) -> usize
@@ -92,14 +94,11 @@ pub fn begin(owner: &[usize; 10525]) -> Cursor
 fn over(c: Cursor) -> Cursor
     ensures { result ≡ record { at = c.at; «from» = 0; to = 0; says = 94; ahead = c.ahead; sayings = c.sayings } }
 {
-    let ahead = c.ahead;
     Cursor {
-        at: c.at,
         from: 0,
         to: 0,
         says: 94,
-        ahead,
-        sayings: c.sayings,
+        ..c
     }
 }
 
@@ -128,13 +127,11 @@ pub fn next<'a>(text: &'a [u8], owner: &'a [usize; 10525], c: Cursor) -> Cursor
     if text.len() < to {
         return over(c);
     }
-    let ahead = c.ahead;
     Cursor {
         at: i + 1,
         from,
         to,
         says,
-        ahead,
-        sayings,
+        ..c
     }
 }

@@ -1,17 +1,25 @@
--- One byte more, as a loop over a text passes it: what comes next is what comes next after the byte.
+-- One byte more, as a loop over a text passes it: what comes next is what comes next after the byte. And a run of bytes more.
 use Prim.Native.Nat.{ℕ, ◌+◌, ◌≤◌, ◌<◌}
 use native.Mathlib.Numerals.{add-one}
 use lib.Dec.{eqb}
 use lib.ListN.{length, get_or, drop, drop_of_length-le}
 use lib.Seq.{drop-cons}
-use mathlib.Core.Path.{◌≡◌, refl, ◌∙◌, ap}
-use mathlib.Core.Bool.{Bool, true, false, ◌&&◌, cond, false≢true}
+use native.Mathlib.Omega.{arith}
+use borrow.Author.Tests.{not-true, not-false}
+use mathlib.Core.Path.{◌≡◌, refl, sym, ◌∙◌, ap}
+use mathlib.Core.Bool.{Bool, true, false, not, ◌&&◌, cond, false≢true}
 use mathlib.Core.List.{List, [], ◌∷◌}
 use Rattle.grammar.specs.Spelling.{Part, between, slash, star, remark, aside, is_blank, begin, feed, shut}
 use Rattle.grammar.specs.Scan.{done, broken, token, ending, stop, next_from, token_at}
+use Rattle.scan.specs.Runs.{Skipped, Passed, run_end}
+use Rattle.scan.proofs.RunLaws.{run_keeps, run_halts}
 use Rattle.grammar.proofs.Passes.{quiet}
 use Rattle.grammar.proofs.View.{stop-quiet}
 use Rattle.grammar.proofs.Spelled.{in_remark, feed-remark}
+
+-- a byte of a comment's line
+abbrev pub in_line : ℕ → Bool
+in_line b = not (eqb b 10)
 
 module _ (u : List ℕ) (i : ℕ) where
   -- past the end of the text
@@ -90,3 +98,29 @@ module _ (u : List ℕ) (i : ℕ) where
     unfolding feed quiet token_at
     remark-ends true e = next-on star between (rw e) refl
     remark-ends false e = absurd (false≢true e)
+
+module _ (u : List ℕ) (at r : ℕ) where
+  -- past blanks
+  pub past-blanks : r ≡ run_end is_blank at (drop at u) → Skipped u at r
+  past-blanks e = record {
+    low = go.0;
+    same = go.1;
+    stops = run_halts is_blank u at r e;
+  }
+    where
+      go : (at ≤ r) × (token_at u r ≡ token_at u at)
+      go = run_keeps is_blank u (λ j. (at ≤ j) × (token_at u j ≡ token_at u at)) (λ j h b p. (omega arith, sym (blank-on u j h b) ∙ p.1)) at r e (omega arith, refl)
+
+  -- past the bytes of a line
+  pub past-line : r ≡ run_end in_line at (drop at u) → at ≤ length u → (at ≤ r) × (r ≤ length u) × (next_from aside at (drop at u) ≡ next_from aside r (drop r u))
+  past-line e l = run_keeps in_line u (λ j. (at ≤ j) × (j ≤ length u) × (next_from aside at (drop at u) ≡ next_from aside j (drop j u)))
+      (λ j h b p. (omega arith, omega arith, p.2 ∙ aside-on u j h (not-true _ b))) at r e (omega arith, l, refl)
+
+  pub line-ends : r ≡ run_end in_line at (drop at u) → at ≤ length u → r < length u → Passed aside u at (token_at u (r + 1)) (r + 1)
+  line-ends e l h = let p = past-line e l in
+      record { low = omega arith; high = omega arith; same = p.2 ∙ aside-ends u r h (not-false _ (run_halts in_line u at r e h)) }
+
+  pub line-past : r ≡ run_end in_line at (drop at u) → at ≤ length u → length u ≤ r → Passed aside u at (token_at u r) r
+  unfolding shut
+  line-past e l h = let p = past-line e l in
+      record { low = p.0; high = p.1; same = p.2 ∙ next_past u r aside h ∙ sym (done-past u r h) }

@@ -1,11 +1,14 @@
 -- The end of a run of bytes, as a loop finds it; and a token's end is the end of a run.
-use Prim.Native.Nat.{ℕ, suc, ◌+◌, ◌≤◌, ◌<◌}
+use Prim.Native.Nat.{ℕ, zero, suc, ◌+◌, ◌≤◌, ◌<◌}
 use native.Mathlib.Numerals.{add-one}
 use lib.ListN.{length, get_or, drop, drop_of_length-le}
+use native.Mathlib.Omega.{arith}
 use lib.Seq.{drop-cons}
 use mathlib.Core.Path.{◌≡◌, refl, sym, ap}
 use mathlib.Core.Bool.{Bool, true, false}
 use mathlib.Core.List.{List, [], ◌∷◌, ◌++◌}
+use Rattle.std.proofs.lemmas.Bool.{cases_lt}
+use mathlib.Core.Logic.{◌⊎◌, inl, inr}
 use Rattle.grammar.specs.Spelling.{Token, is_letter, is_digit, is_word_byte, is_pair, is_nil, joins}
 use Rattle.grammar.specs.Scan.{ending}
 use Rattle.scan.specs.Runs.{is_number_byte, run_end}
@@ -22,6 +25,28 @@ module _ (test : ℕ → Bool) (u : List ℕ) (i : ℕ) where
   pub run-stops : i < length u → test (get_or u i 0) ≡ false → run_end test i (drop i u) ≡ i
   unfolding run_end
   run-stops h e = rw (drop-cons u i 0 h, e)
+
+-- what holds at place i, and goes on past each byte that passes, holds at the run's end; and the byte there fails
+module _ (test : ℕ → Bool) (u : List ℕ) (P : ℕ → Type 0) (on : (j : ℕ) → j < length u → test (get_or u j 0) ≡ true → P j → P (j + 1)) where
+  abbrev Ends : ℕ → Type 0
+  Ends r = P r × (r < length u → test (get_or u r 0) ≡ false)
+
+  run_to : (k i : ℕ) → length u ≤ i + k → P i → Ends (run_end test i (drop i u))
+  run_to zero i h p = rw (run_past test u i (omega arith)) (p, λ x. absurd (omega arith))
+  run_to (suc k) i h p = here (cases_lt i (length u)) (test (get_or u i 0)) refl (λ l q. run_to k (i + 1) (omega arith) q)
+    where
+      here : (i < length u) ⊎ (length u ≤ i) → (b : Bool) → test (get_or u i 0) ≡ b
+          → (i < length u → P (i + 1) → Ends (run_end test (i + 1) (drop (i + 1) u))) → Ends (run_end test i (drop i u))
+      here (inl l) true e later = rw (run_on test u i l e) (later l (on i l e p))
+      here (inl l) false e later = rw (run-stops test u i l e) (p, λ x. e)
+      here (inr l) b e later = rw (run_past test u i l) (p, λ x. absurd (omega arith))
+
+pub run_keeps : (test : ℕ → Bool) (u : List ℕ) (P : ℕ → Type 0) → ((j : ℕ) → j < length u → test (get_or u j 0) ≡ true → P j → P (j + 1))
+    → (i r : ℕ) → r ≡ run_end test i (drop i u) → P i → P r
+run_keeps test u P on i r e p = rw e ((run_to test u P on (length u) i (omega arith) p).0)
+
+pub run_halts : (test : ℕ → Bool) (u : List ℕ) (i r : ℕ) → r ≡ run_end test i (drop i u) → r < length u → test (get_or u r 0) ≡ false
+run_halts test u i r e = rw e ((run_to test u (λ j. Unit {0}) (λ j h x p. tt) (length u) i (omega arith) tt).1)
 
 -- a token's end, where the bytes that join it are those of a test
 ending-run : (test : ℕ → Bool) (c : ℕ) → ((q : Token) (b : ℕ) → joins (c ∷ q) b ≡ test b)

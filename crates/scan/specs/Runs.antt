@@ -1,11 +1,15 @@
 -- Runs of bytes that a loop passes, and what they leave.
 use Rattle.std.specs.Prelude.{ℕ, suc, ◌≤◌, ◌<◌, ◌≡◌, Bool, false, ◌||◌, cond, List, [], ◌∷◌, eqb, length, get_or, drop}
 use Rattle.grammar.specs.Spelling.{Part, is_word_byte, is_blank}
-use Rattle.grammar.specs.Scan.{Next, broken, next_from, token_at}
+use Rattle.grammar.specs.Scan.{Next, next_from, token_at}
 
 -- a byte that a number takes
 unfoldable pub is_number_byte : ℕ → Bool
 is_number_byte b = is_word_byte b || eqb b 46
+
+-- each call answers at a byte as the test does; `post` is what calls may answer
+pub record Tells (post : ℕ → Bool → Type 0) (test : ℕ → Bool) : Type 0 where
+  pub told : (b : ℕ) (r : Bool) → b < 256 → post b r → r ≡ test b
 
 -- the place of the first byte that fails the test; u's first byte stands at place n
 unfoldable pub run_end : (ℕ → Bool) → ℕ → List ℕ → ℕ
@@ -24,11 +28,7 @@ pub record Passed (p : Part) (u : List ℕ) (at : ℕ) (next : Next) (r : ℕ) :
   pub high : r ≤ length u
   pub same : next_from p at (drop at u) ≡ next
 
--- the text is broken at place `to`, or goes on there
-unfoldable pub passed_to : List ℕ → Bool → ℕ → Next
-passed_to u stops to = cond stops (broken to) (token_at u to)
-
 -- opens every definition of this file
 unfoldable pub opened : Unit {0}
-unfolding is_number_byte run_end passed_to
+unfolding is_number_byte run_end
 opened = tt

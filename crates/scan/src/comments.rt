@@ -2,28 +2,22 @@
 ghost use Rattle.std.specs.Prelude.{◌≡◌, ◌≤◌, ◌+◌, length, drop};
 ghost use Rattle.grammar.specs.Spelling.{slash, remark, aside};
 ghost use Rattle.grammar.specs.Scan.{token_at, next_from};
-ghost use Rattle.scan.specs.Runs.{Skipped, Passed, passed_to};
+ghost use Rattle.scan.specs.Runs.{Skipped, Passed};
+ghost use Rattle.scan.specs.Reply.{passed_to, place_of};
 
 use super::bytes::is_blank;
+use super::runs::run_end;
 
-// A comment is passed, and the text goes on at `to`; or the text is broken there.
+// The text is broken, and nothing past `to` is viable.
 #[derive(Clone, Copy)]
-pub struct Skip {
-    pub broken: bool,
+pub struct Broken {
     pub to: usize,
 }
 
 pub fn skip_blanks(text: &[u8], at: usize) -> usize
     ensures { Skipped text.now at result }
 {
-    let mut i = at;
-    while i < text.len() {
-        if !is_blank(text[i]) {
-            return i;
-        }
-        i += 1;
-    }
-    i
+    run_end(text, at, is_blank)
 }
 
 // After "//": to the end of the line or of the text.
@@ -31,59 +25,37 @@ fn skip_line(text: &[u8], at: usize) -> usize
     requires { at ≤ length text.now }
     ensures { Passed aside text.now at (token_at text.now result) result }
 {
-    let mut i = at;
-    while i < text.len() {
-        if text[i] == 10 {
-            return i + 1;
-        }
-        i += 1;
-    }
-    i
+    let end = run_end(text, at, |b| b != b'\n');
+    if end < text.len() { end + 1 } else { end }
 }
 
 // After "/*": to the "*/" that closes it.
-fn skip_remark(text: &[u8], at: usize) -> Skip
+fn skip_remark(text: &[u8], at: usize) -> Result<usize, Broken>
     requires { at ≤ length text.now }
-    ensures { Passed remark text.now at (passed_to text.now result.broken result.to) result.to }
+    ensures { Passed remark text.now at (passed_to text.now result) (place_of result) }
 {
     let mut starred = false;
-    let mut i = at;
-    while i < text.len() {
+    for i in at..text.len() {
         let b = text[i];
-        i += 1;
-        if starred & (b == 47) {
-            return Skip {
-                broken: false,
-                to: i,
-            };
+        if starred & (b == b'/') {
+            return Ok(i + 1);
         }
-        starred = b == 42;
+        starred = b == b'*';
     }
-    Skip {
-        broken: true,
-        to: i,
-    }
+    Err(Broken { to: text.len() })
 }
 
-// After '/'.
-pub fn skip_comment(text: &[u8], at: usize) -> Skip
+// After '/': where the text goes on behind the comment.
+pub fn skip_comment(text: &[u8], at: usize) -> Result<usize, Broken>
     requires { at ≤ length text.now }
-    ensures { Passed slash text.now at (passed_to text.now result.broken result.to) result.to }
+    ensures { Passed slash text.now at (passed_to text.now result) (place_of result) }
 {
-    if at < text.len() {
-        let b = text[at];
-        if b == 42 {
-            return skip_remark(text, at + 1);
-        }
-        if b == 47 {
-            return Skip {
-                broken: false,
-                to: skip_line(text, at + 1),
-            };
-        }
-    }
-    Skip {
-        broken: true,
-        to: at,
+    let Some(b) = text.get(at) else {
+        return Err(Broken { to: at });
+    };
+    match *b {
+        b'*' => skip_remark(text, at + 1),
+        b'/' => Ok(skip_line(text, at + 1)),
+        _ => Err(Broken { to: at }),
     }
 }

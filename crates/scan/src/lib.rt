@@ -3,7 +3,10 @@
 
 mod bytes;
 mod comments;
+mod runs;
 mod tokens;
 
 pub use bytes::{is_blank, is_digit, is_letter, is_word_byte};
+pub use comments::Broken;
+pub use runs::run_end;
 pub use tokens::{Token, token_at};

@@ -1,5 +1,8 @@
 -- Words with a blank after each: the place after some blanks, and how much of a token a word begins with.
 use Rattle.std.proofs.Common.{◌≡◌, ℕ, zero, suc, ◌+◌, ◌-◌, ◌<◌, ◌≤◌, List, [], ◌∷◌, length, get_or, take, drop, sym, refl, ap, ◌∙◌, ap₂, arith, length-drop, drop_of_length-le, take_all, eq-eqb, ne_eqb}
+use Prim.Native.Nat.{min}
+use mathlib.Core.Logic.{inl, inr}
+use Rattle.std.proofs.lemmas.Bool.{cases_lt}
 use Rattle.words.specs.Viable.{after_blanks, common_run}
 use Rattle.words.proofs.Rest.{next-byte}
 
@@ -37,8 +40,8 @@ module _ (words : List ℕ) (k left i : ℕ) (s : Skipped words k left i) where
   pub skipped-done : left ≡ 0 → (i ≤ length words) × (drop i words ≡ after_blanks k words)
   skipped-done e = (s.within, after_none (drop i words) left e ∙ sym s.rest)
 
-  pub skipped-end : length words ≤ i → (i ≤ length words) × (drop i words ≡ after_blanks k words)
-  skipped-end h = (s.within, none ∙ sym (s.rest ∙ ap (after_blanks left) none ∙ after-end left))
+  pub skipped-end : length words ≤ i → (length words ≤ length words) × (drop (length words) words ≡ after_blanks k words)
+  skipped-end h = (omega arith, drop_of_length-le words {i = length words} (omega arith) ∙ sym (s.rest ∙ ap (after_blanks left) none ∙ after-end left))
     where
       none : drop i words ≡ []
       none = drop_of_length-le words h
@@ -71,6 +74,10 @@ module _ (words t : List ℕ) (i : ℕ) (s : Common words t i) where
 
   pub common-all : length t ≤ i → i ≡ common_run words t
   common-all h = stops (ap (common_run (drop i words)) (drop_of_length-le t h) ∙ no-token (drop i words))
+
+  -- the loop has come to the end of the shorter
+  pub common-end : {most : ℕ} → most ≡ min (length words) (length t) → most ≡ i → most ≡ common_run words t
+  common-end {most} e g = elim (cases_lt i (length words)) [ inl h ↦ (let z = common-all (omega arith) in omega arith) | inr h ↦ (let z = common-short h in omega arith) ]
 
   both-next : i < length words → i < length t → common_run (drop i words) (drop i t) ≡ common_run (get_or words i 0 ∷ drop (i + 1) words) (get_or t i 0 ∷ drop (i + 1) t)
   both-next h e = ap₂ common_run (next-byte words i h) (next-byte t i e)

@@ -1,6 +1,9 @@
 -- Numbers that are capped past 2^63, and the digits that write them.
 use Rattle.std.proofs.Common.{◌≡◌, ℕ, ◌+◌, ◌-◌, ◌*◌, ◌<◌, ◌≤◌, Bool, true, false, cond, eqb, leb, List, [], ◌∷◌, length, get_or, drop, sym, refl, ap, ◌∙◌, arith, drop_of_length-le, eq-eqb, ne_eqb, le-leb, leb-false, leb-true}
+use Prim.Native.Nat.{min}
 use mathlib.Core.Bool.{false≢true}
+use mathlib.Core.Logic.{inl, inr}
+use Rattle.std.proofs.lemmas.Bool.{cases_lt}
 use borrow.Author.Tests.{lt-leb}
 use Rattle.grammar.specs.Spelling.{is_digit}
 use Rattle.grammar.specs.Leads.{digits, is_number, value_from}
@@ -16,6 +19,13 @@ capped_is {m} {n} e h = rw (le-leb n 9223372036854775808 (omega arith)) e
 pub capped-past : {n : ℕ} → 9223372036854775808 < n → 9223372036854775809 ≡ capped n
 unfolding capped
 capped-past {n} h = rw (lt-leb n 9223372036854775808 h) refl
+
+-- one digit more, where the sum stops at the largest count
+pub capped-min : {m n r : ℕ} → r ≡ min m 9223372036854775809 → (n < 9223372036854775809 → m ≡ n) → (9223372036854775809 ≤ n → 9223372036854775809 ≤ m) → r ≡ capped n
+capped-min {m} {n} {r} e f g = elim (cases_lt 9223372036854775808 n) [
+  | inl h ↦ (let l = g (omega arith) in (let z : r ≡ 9223372036854775809 = omega arith in z ∙ capped-past h))
+  | inr h ↦ (let l = f (omega arith) in capped_is (omega arith) (omega arith))
+]
 
 capped-twice : (n : ℕ) → capped (capped n) ≡ capped n
 capped-twice n = go (leb n 9223372036854775808) refl

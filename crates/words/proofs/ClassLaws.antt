@@ -1,5 +1,5 @@
 -- The class of a token from what it is.
-use Rattle.std.proofs.Common.{◌≡◌, ℕ, suc, ◌<◌, ◌≤◌, Bool, true, false, ◌&&◌, leb, List, [], ◌∷◌, sym, refl, ap, ◌∙◌, arith, le-leb, leb-false, leb-true}
+use Rattle.std.proofs.Common.{◌≡◌, ℕ, zero, suc, ◌+◌, length, get_or, ◌<◌, ◌≤◌, Bool, true, false, ◌&&◌, leb, List, [], ◌∷◌, sym, refl, ap, ◌∙◌, arith, le-leb, leb-false, leb-true}
 use borrow.Author.Tests.{lt-leb}
 use Rattle.plexil.specs.Lists.{Found, at, nowhere}
 use Rattle.grammar.specs.Spelling.{Token}
@@ -21,6 +21,16 @@ upto i b bs n h = sym (number-here i b bs n (le-leb n b h))
 pub all_past : (i n : ℕ) → another ≡ number_class i [] n
 unfolding number_class
 all_past i n = refl
+
+-- the first bound that n does not pass
+pub class-first : (bs : List ℕ) (k i n : ℕ) → i < length bs → n ≤ get_or bs i 0 → ((j : ℕ) → j < i → get_or bs j 0 < n) → k + i ≡ number_class k bs n
+class-first [] k i n h e p = absurd (omega arith)
+class-first (b ∷ bs) k zero n h e p = omega (arith, upto k b bs n e)
+class-first (b ∷ bs) k (suc i) n h e p = past k b bs n (p 0 (omega arith)) (let z = class-first bs (suc k) i n (omega arith) e (λ j l. p (suc j) (omega arith)) in omega (arith, z))
+
+pub class-none : (bs : List ℕ) (k n : ℕ) → ((j : ℕ) → j < length bs → get_or bs j 0 < n) → another ≡ number_class k bs n
+class-none [] k n p = all_past k n
+class-none (b ∷ bs) k n p = past k b bs n (p 0 (omega arith)) (class-none bs (suc k) n (λ j l. p (suc j) (omega arith)))
 
 -- no bound is past 2^63, so the classes of numbers past it are one
 low_bounds : List ℕ → Bool

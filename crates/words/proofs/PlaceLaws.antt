@@ -1,48 +1,20 @@
 -- The digits after '.', and the power of ten that they divide by.
-use Rattle.std.proofs.Common.{◌≡◌, ℕ, ◌+◌, ◌-◌, ◌*◌, ◌^◌, ◌<◌, ◌≤◌, List, length, get_or, drop, sym, refl, ap, ◌∙◌, pow-suc, add-one, arith, length-drop, drop_of_length-le, eq-eqb, ne_eqb}
+use Rattle.std.proofs.Common.{◌≡◌, ℕ, zero, suc, [], ◌∷◌, ◌-◌, ◌^◌, ◌<◌, ◌≤◌, List, length, get_or, refl, arith, eq-eqb, ne_eqb}
 use native.Mathlib.Nat.{pow-le-pow_right, one-le-pow}
 use Rattle.notation.specs.Numbers.{places}
-use Rattle.words.proofs.Rest.{next-byte}
 
--- no '.' below i
-pub record Pointless (t : List ℕ) (i : ℕ) : Type 0 where
-  pub rest : places t ≡ places (drop i t)
-
-pub point-start : (t : List ℕ) → Pointless t 0
-point-start t = record { rest = refl }
-
-pub point-next : (t : List ℕ) (i : ℕ) → Pointless t i → i < length t → (get_or t i 0 ≡ 46 → ⊥) → Pointless t (i + 1)
+-- the first '.' stands at place i
+pub point-found : (t : List ℕ) (i : ℕ) → i < length t → get_or t i 0 ≡ 46 → ((j : ℕ) → j < i → get_or t j 0 ≡ 46 → ⊥) → length t - i - 1 ≡ places t
 unfolding places
-point-next t i s h e = record { rest = s.rest ∙ ap places (next-byte t i h) ∙ rw (ne_eqb (get_or t i 0) 46 e) refl }
+point-found [] i h e n = absurd (omega arith)
+point-found (b ∷ t) zero h e n = rw (eq-eqb b 46 e) (omega arith)
+point-found (b ∷ t) (suc i) h e n = rw (ne_eqb b 46 (n 0 (omega arith))) (let z = point-found t i (omega arith) e (λ j l. n (suc j) (omega arith)) in omega (arith, z))
 
-pub point-found : (t : List ℕ) (i : ℕ) → Pointless t i → i < length t → get_or t i 0 ≡ 46 → length t - i - 1 ≡ places t
+pub point-none : (t : List ℕ) → ((j : ℕ) → j < length t → get_or t j 0 ≡ 46 → ⊥) → 0 ≡ places t
 unfolding places
-point-found t i s h e = after ∙ sym (s.rest ∙ ap places (next-byte t i h) ∙ rw (eq-eqb (get_or t i 0) 46 e) refl)
-  where
-    after : length t - i - 1 ≡ length (drop (i + 1) t)
-    after = rw (length-drop (i + 1) t) (omega arith)
+point-none [] n = refl
+point-none (b ∷ t) n = rw (ne_eqb b 46 (n 0 (omega arith))) (point-none t (λ j l. n (suc j) (omega arith)))
 
-pub point-none : (t : List ℕ) (i : ℕ) → Pointless t i → length t ≤ i → 0 ≡ places t
-unfolding places
-point-none t i s h = sym (s.rest ∙ ap places (drop_of_length-le t h))
-
--- 10 to the power i
-pub record Power (k i r : ℕ) : Type 0 where
-  pub short : k ≤ 15
-  pub within : i ≤ k
-  pub power : r ≡ 10 ^ i
-
-pub power-start : (k : ℕ) → k ≤ 15 → Power k 0 1
-power-start k h = record { short = h; within = omega arith; power = refl }
-
-pub power-next : (k i r : ℕ) → Power k i r → i < k → Power k (i + 1) (r * 10)
-power-next k i r s h = record { short = s.short; within = omega arith; power = rw (add-one, pow-suc 10 i) (ap (λ x. x * 10) s.power) }
-
-pub power-low : (k i r : ℕ) → Power k i r → r ≤ 1000000000000000
-power-low k i r s = rw s.power (pow-le-pow_right {n = 10} (omega arith) {i = i} {j = 15} (omega (arith, s.short, s.within)))
-
-pub power-high : (k i r : ℕ) → Power k i r → 0 < r
-power-high k i r s = rw s.power (one-le-pow i 10 (omega arith))
-
-pub power-end : (k i r : ℕ) → Power k i r → k ≤ i → r ≡ 10 ^ k
-power-end k i r s h = s.power ∙ ap (λ j. 10 ^ j) (omega (arith, s.within))
+-- 10 to the power k
+pub power-told : (k r : ℕ) → k ≤ 15 → r ≡ 10 ^ k → (0 < r) × (r ≤ 1000000000000000) × (k ≤ 15 → r ≡ 10 ^ k)
+power-told k r h e = (rw e (one-le-pow k 10 (omega arith)), rw e (pow-le-pow_right {n = 10} (omega arith) {i = k} {j = 15} h), λ l. e)

@@ -1,8 +1,7 @@
 -- How much of a token is viable for a class, by the class's lead.
-use Rattle.std.proofs.Common.{◌≡◌, ℕ, zero, suc, ◌≤◌, List, [], ◌∷◌, length, sym, refl, inr, arith, ne_eqb}
+use Rattle.std.proofs.Common.{◌≡◌, ℕ, zero, suc, ◌+◌, ◌-◌, get_or, ◌≤◌, List, [], ◌∷◌, length, sym, refl, inr, arith, ne_eqb}
 use Prim.Native.String.{String}
 use mathlib.Core.Option.{none, some}
-use Rattle.plexil.proofs.OperatorNumbers.{NoneOf, past}
 use Rattle.grammar.specs.Spelling.{Token}
 use Rattle.grammar.specs.Leads.{Lead, up_to}
 use Rattle.grammar.specs.Scan.{viable_by, digits_up_to}
@@ -27,13 +26,10 @@ word-past [] c h = refl
 word-past (w ∷ ws) zero h = absurd (omega arith)
 word-past (w ∷ ws) (suc c) h = word-past ws c (omega arith)
 
-pub no_lead : (c : ℕ) (t : Token) → a_name ≤ c → NoneOf 67 8 c → 0 ≡ viable_class c t
+pub no_lead : (c : ℕ) (t : Token) → 75 ≤ c → 0 ≡ viable_class c t
 unfolding viable_class viable_of
-no_lead c t h n = sym (rw lead refl)
+no_lead c t high = sym (rw lead refl)
   where
-    high : 75 ≤ c
-    high = past 67 8 c n h
-
     unbounded : bound_from 68 bounds c ≡ none
     unbounded = bound-outside bounds 68 c (inr (unfold bounds in (omega (arith, high))))
 
@@ -47,3 +43,17 @@ no_lead c t h n = sym (rw lead refl)
 unfoldable pub leads : Unit {0}
 unfolding Viable.opened Rows.opened Classes.opened
 leads = tt
+
+-- a number up to the bound of its class
+pub bounded-told : (c : ℕ) (t : Token) {r : ℕ} → 68 ≤ c → c ≤ 73 → r ≡ digits_up_to (get_or bounds (c - 68) 0) 0 t → r ≡ viable_class c t
+unfolding leads
+bounded-told c t {r} h g e = go (c - 68) (omega arith) (omega arith) e
+  where
+    go : (i : ℕ) → c ≡ 68 + i → i ≤ 5 → r ≡ digits_up_to (get_or bounds i 0) 0 t → r ≡ viable_class c t
+    go zero p q e = bound-told 68 65534 t p e refl
+    go (suc zero) p q e = bound-told 69 65535 t p e refl
+    go (suc (suc zero)) p q e = bound-told 70 999999999999999 t p e refl
+    go (suc (suc (suc zero))) p q e = bound-told 71 9218868437227405311 t p e refl
+    go (suc (suc (suc (suc zero)))) p q e = bound-told 72 9223372036854775807 t p e refl
+    go (suc (suc (suc (suc (suc zero))))) p q e = bound-told 73 9223372036854775808 t p e refl
+    go (suc (suc (suc (suc (suc (suc i)))))) p q e = absurd (omega arith)

@@ -9,13 +9,13 @@ fn found(group: &[u8], t: &[u8]) -> u8
     ensures { result ≡ found_in group.now t.now }
 {
     let n = t.len();
-    let mut at = 0;
-    while n < group.len() - at {
-        let end = at + n;
-        if same(&group[at..end], t) {
-            return group[end];
+    let mut rest = group;
+    while n < rest.len() {
+        let (word, later) = rest.split_at(n);
+        if same(word, t) {
+            return later[0];
         }
-        at = end + 1;
+        rest = &later[1..];
     }
     67
 }
@@ -24,8 +24,7 @@ fn found(group: &[u8], t: &[u8]) -> u8
 pub fn literal(t: &[u8]) -> u8
     ensures { result ≡ literal_class t.now }
 {
-    let n = t.len();
-    match n {
+    match t.len() {
         1 => found(
             b";\x34:\x33{\x2f}\x30(\x31)\x32=\x35.\x36<\x39>\x3b+\x3d-\x3e*\x3f!\x42",
             t,

@@ -8,63 +8,55 @@ ghost use Rattle.words.specs.Capped.{capped};
 
 use scan::is_digit;
 
-fn digit(b: u8) -> u64
-    ensures { result ≡ b - 48 }
-{
-    if b < 48 { 0 } else { (b - 48) as u64 }
-}
+// The highest number that a text can write, and one that stands for all that are past it.
+const HIGHEST: u64 = 9223372036854775808;
+
+const PAST: u64 = 9223372036854775809;
+
+// The highest whole numbers of the classes 68 to 73.
+pub const BOUNDS: [u64; 6] = [
+    65534,
+    65535,
+    999999999999999,
+    9218868437227405311,
+    9223372036854775807,
+    9223372036854775808,
+];
 
 // One digit more; past 2^63 a number is not told from 2^63 + 1.
 pub fn onward(n: u64, b: u8) -> u64
     ensures { result ≡ capped (n * 10 + (b - 48)) }
 {
-    if 922337203685477580 < n {
-        return 9223372036854775809;
-    }
-    let next = n * 10 + digit(b);
-    if 9223372036854775808 < next {
-        return 9223372036854775809;
-    }
-    next
+    let digit = b.saturating_sub(b'0') as u64;
+    n.saturating_mul(10).saturating_add(digit).min(PAST)
 }
 
 // The digits of t as one number, '.' left out.
 pub fn all_digits(t: &[u8]) -> u64
     ensures { result ≡ capped (all_digits 0 t.now) }
 {
-    let mut n: u64 = 0;
-    let mut i = 0;
-    while i < t.len() {
-        let b = t[i];
-        if b != 46 {
-            n = onward(n, b);
+    let mut n = 0;
+    for b in t {
+        if *b != b'.' {
+            n = onward(n, *b);
         }
-        i += 1;
     }
     n
 }
 
-// From `at` on there are only digits.
-pub fn only_digits(t: &[u8], at: usize) -> bool
-    ensures { result ≡ digits (drop at t.now) }
+pub fn only_digits(t: &[u8]) -> bool
+    ensures { result ≡ digits t.now }
 {
-    let mut i = at;
-    while i < t.len() {
-        if !is_digit(t[i]) {
-            return false;
-        }
-        i += 1;
-    }
-    true
+    t.iter().all(|b| is_digit(*b))
 }
 
 pub fn is_number(t: &[u8]) -> bool
     ensures { result ≡ is_number t.now }
 {
-    if 0 < t.len() {
-        return only_digits(t, 0);
+    if t.is_empty() {
+        return false;
     }
-    false
+    only_digits(t)
 }
 
 pub fn number_of(t: &[u8]) -> u64
@@ -77,38 +69,17 @@ pub fn number_of(t: &[u8]) -> u64
 pub fn number_class(n: u64) -> u8
     ensures { result ≡ number_class 68 bounds n }
 {
-    if n <= 65534 {
-        return 68;
+    match BOUNDS.iter().position(|bound| n <= *bound) {
+        Some(i) => 68 + i as u8,
+        None => 75,
     }
-    if n <= 65535 {
-        return 69;
-    }
-    if n <= 999999999999999 {
-        return 70;
-    }
-    if n <= 9218868437227405311 {
-        return 71;
-    }
-    if n <= 9223372036854775807 {
-        return 72;
-    }
-    if n <= 9223372036854775808 {
-        return 73;
-    }
-    75
 }
 
 // Two's complement of n, where it is negative.
 pub fn signed(negative: bool, n: u64) -> u64
     ensures { result ≡ Numbers.signed negative n }
 {
-    if !negative {
-        return n;
-    }
-    if n == 0 {
-        return 0;
-    }
-    18446744073709551615 - n + 1
+    if negative { n.wrapping_neg() } else { n }
 }
 
 // A float's bits with the sign's bit, where it is negative.
@@ -118,8 +89,8 @@ pub fn signed_bits(negative: bool, n: u64) -> u64
     if !negative {
         return n;
     }
-    if 9223372036854775807 < n {
+    if HIGHEST <= n {
         return n;
     }
-    9223372036854775808 + n
+    HIGHEST + n
 }

@@ -1,10 +1,11 @@
 // How much of a token can begin a token of a class's lead: what refusal 40 counts of the token that it stops in.
 ghost use Rattle.std.specs.Prelude.{◌≡◌, ◌+◌, ◌<◌, ◌≤◌, length, drop};
 ghost use Rattle.grammar.specs.Leads.{name, real};
-ghost use Rattle.grammar.specs.Scan.{viable_by, digits_up_to, some_digits};
+ghost use Rattle.grammar.specs.Scan.{viable_by, digits_up_to};
 ghost use Rattle.words.specs.Viable.{viable_class, after_blanks, common_run};
 
-use crate::numbers::onward;
+use crate::decimals::digits_end;
+use crate::numbers::{BOUNDS, onward};
 use scan::{is_digit, is_letter};
 
 // The place after the k-th blank of words.
@@ -12,37 +13,31 @@ fn start(words: &[u8], k: u8) -> usize
     ensures { (result ≤ length words.now) × (drop result words.now ≡ after_blanks k words.now) }
 {
     let mut left = k;
-    let mut i = 0;
-    while i < words.len() {
+    for i in 0..words.len() {
         if left == 0 {
             return i;
         }
-        if words[i] == 32 {
+        if words[i] == b' ' {
             left -= 1;
         }
-        i += 1;
     }
-    i
+    words.len()
 }
 
 // How many bytes of t stand at the front of words, up to a blank.
 fn common(words: &[u8], t: &[u8]) -> usize
     ensures { result ≡ common_run words.now t.now }
 {
-    let mut i = 0;
-    while i < t.len() {
-        if words.len() <= i {
-            return i;
-        }
-        if words[i] == 32 {
+    let most = words.len().min(t.len());
+    for i in 0..most {
+        if words[i] == b' ' {
             return i;
         }
         if words[i] != t[i] {
             return i;
         }
-        i += 1;
     }
-    i
+    most
 }
 
 fn word_prefix(words: &[u8], k: u8, t: &[u8]) -> usize
@@ -71,13 +66,10 @@ fn literal_prefix(class: u8, t: &[u8]) -> usize
 fn name_prefix(t: &[u8]) -> usize
     ensures { result ≡ viable_by name t.now }
 {
-    if t.len() == 0 {
+    if t.is_empty() {
         return 0;
     }
-    if is_letter(t[0]) {
-        return t.len();
-    }
-    0
+    if is_letter(t[0]) { t.len() } else { 0 }
 }
 
 // Digits that write a number up to the bound.
@@ -85,69 +77,34 @@ fn number_prefix(t: &[u8], bound: u64) -> usize
     requires { bound ≤ 9223372036854775808 }
     ensures { result ≡ digits_up_to bound 0 t.now }
 {
-    let mut n: u64 = 0;
-    let mut i = 0;
-    while i < t.len() {
-        let b = t[i];
-        if !is_digit(b) {
-            return i;
-        }
-        let next = onward(n, b);
-        if bound < next {
-            return i;
-        }
-        n = next;
-        i += 1;
-    }
-    i
-}
-
-// The place after at most k digits from `at` on.
-fn digits_end(t: &[u8], at: usize, k: usize) -> usize
-    ensures { result ≡ at + some_digits k (drop at t.now) }
-{
-    let mut left = k;
-    let mut i = at;
-    while i < t.len() {
-        if left == 0 {
-            return i;
-        }
+    let mut n = 0;
+    for i in 0..t.len() {
         if !is_digit(t[i]) {
             return i;
         }
-        i += 1;
-        left -= 1;
+        n = onward(n, t[i]);
+        if bound < n {
+            return i;
+        }
     }
-    i
+    t.len()
 }
 
-// What can become a decimal of 15 digits: k more may come after '.', and one must.
+// What can become a decimal of 15 digits: after '.' there may be those that are left of them, and one must be.
 fn real_prefix(t: &[u8]) -> usize
     ensures { result ≡ viable_by real t.now }
 {
-    if t.len() == 0 {
+    let whole = digits_end(t, 0, 14);
+    if whole == 0 {
         return 0;
     }
-    if !is_digit(t[0]) {
-        return 0;
+    if whole == t.len() {
+        return whole;
     }
-    let mut i = 1;
-    let mut k = 13;
-    while i < t.len() {
-        let b = t[i];
-        if b == 46 {
-            return digits_end(t, i + 1, k + 1);
-        }
-        if k == 0 {
-            return i;
-        }
-        if !is_digit(b) {
-            return i;
-        }
-        i += 1;
-        k -= 1;
+    if t[whole] != b'.' {
+        return whole;
     }
-    i
+    digits_end(t, whole + 1, 15 - whole)
 }
 
 pub fn viable(class: u8, t: &[u8]) -> usize
@@ -158,12 +115,7 @@ pub fn viable(class: u8, t: &[u8]) -> usize
     }
     match class {
         67 => name_prefix(t),
-        68 => number_prefix(t, 65534),
-        69 => number_prefix(t, 65535),
-        70 => number_prefix(t, 999999999999999),
-        71 => number_prefix(t, 9218868437227405311),
-        72 => number_prefix(t, 9223372036854775807),
-        73 => number_prefix(t, 9223372036854775808),
+        68..=73 => number_prefix(t, BOUNDS[(class - 68) as usize]),
         74 => real_prefix(t),
         _ => 0,
     }

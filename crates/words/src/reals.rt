@@ -12,14 +12,10 @@ use crate::numbers::all_digits;
 fn places(t: &[u8]) -> usize
     ensures { result ≡ Numbers.places t.now }
 {
-    let mut i = 0;
-    while i < t.len() {
-        if t[i] == 46 {
-            return t.len() - i - 1;
-        }
-        i += 1;
+    match t.iter().position(|b| *b == b'.') {
+        Some(i) => t.len() - i - 1,
+        None => 0,
     }
-    0
 }
 
 // 10 to the power k; from 16 on it is 1.
@@ -29,19 +25,13 @@ fn power(k: usize) -> u64
     if 15 < k {
         return 1;
     }
-    let mut r: u64 = 1;
-    let mut i = 0;
-    while i < k {
-        r *= 10;
-        i += 1;
-    }
-    r
+    10u64.pow(k as u32)
 }
 
 // Whole numbers up to 2^53 are floats exactly, so that only the division rounds.
 fn quotient(m: u64, d: u64) -> f64
-    requires fact_1 { m ≤ 9007199254740992 }
-    requires fact_2 { (0 < d) × (d ≤ 9007199254740992) }
+    requires whole { m ≤ 9007199254740992 }
+    requires divisor { (0 < d) × (d ≤ 9007199254740992) }
     ensures { result ≡ Ieee.round binary64 false m d }
 {
     std::num::nearest_u64_to_f64(m) / std::num::nearest_u64_to_f64(d)

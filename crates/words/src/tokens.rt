@@ -1,71 +1,23 @@
 // The class of a token.
-ghost use Rattle.std.specs.Prelude.{◌≡◌, drop};
-ghost use Rattle.grammar.specs.Leads.{is_word, is_real, fraction};
+ghost use Rattle.std.specs.Prelude.{◌≡◌};
+ghost use Rattle.grammar.specs.Leads.{is_word};
 ghost use Rattle.notation.specs.Classes.{class_of, other_class};
 
+use crate::decimals::is_real;
 use crate::literals::literal;
-use crate::numbers::{all_digits, is_number, number_class, only_digits};
-use scan::{is_digit, is_letter, is_word_byte};
+use crate::numbers::{all_digits, is_number, number_class};
+use scan::{is_letter, is_word_byte};
 
 fn is_word(t: &[u8]) -> bool
     ensures { result ≡ is_word t.now }
 {
-    if t.len() == 0 {
+    let Some((first, rest)) = t.split_first() else {
+        return false;
+    };
+    if !is_letter(*first) {
         return false;
     }
-    if !is_letter(t[0]) {
-        return false;
-    }
-    let mut i = 1;
-    while i < t.len() {
-        if !is_word_byte(t[i]) {
-            return false;
-        }
-        i += 1;
-    }
-    true
-}
-
-// From `at` on there are 1 to k digits, and no other byte.
-fn is_fraction(t: &[u8], at: usize, k: usize) -> bool
-    ensures { result ≡ fraction k (drop at t.now) }
-{
-    if t.len() <= at {
-        return false;
-    }
-    if k < t.len() - at {
-        return false;
-    }
-    only_digits(t, at)
-}
-
-// Digits, '.' and digits, at most 15 in all: k more after the first i.
-fn is_real(t: &[u8]) -> bool
-    ensures { result ≡ is_real t.now }
-{
-    if t.len() == 0 {
-        return false;
-    }
-    if !is_digit(t[0]) {
-        return false;
-    }
-    let mut i = 1;
-    let mut k = 14;
-    while i < t.len() {
-        let b = t[i];
-        if k == 0 {
-            return false;
-        }
-        if b == 46 {
-            return is_fraction(t, i + 1, k);
-        }
-        if !is_digit(b) {
-            return false;
-        }
-        i += 1;
-        k -= 1;
-    }
-    false
+    rest.iter().all(|b| is_word_byte(*b))
 }
 
 // The class of a token that is no word or sign of the notation.

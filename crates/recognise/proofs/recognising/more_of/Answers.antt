@@ -1,12 +1,10 @@
--- `more_of` meets its contract.
-use Rattle.recognise.proofs.ViableLaws.{more-none, more-more, more-less}
+-- Where a token of the class can come, the more of the two.
+use mathlib.Core.Path.{sym, ◌∙◌}
+use Rattle.recognise.proofs.ViableLaws.{more-none, more-some}
 use Rattle.recognise.proofs.recognising.more_of.Goals as goal
 
-pub returns-then-most-n : goal.returns-then-most-n
-returns-then-most-n c = more-more _ _ _ _ c.step-s.ensures c.if-s.true c.viable-n.ensures c.if-most-n.true
+pub returns-in-Some : goal.returns-in-Some
+returns-in-Some c = c.max.ensures ∙ more-some _ _ _ _ (sym c.in-Some.is ∙ c.step.ensures) c.viable.ensures
 
-pub returns-else-most-n : goal.returns-else-most-n
-returns-else-most-n c = more-less _ _ _ _ c.step-s.ensures c.if-s.true c.viable-n.ensures c.if-most-n.false
-
-pub returns-else-s : goal.returns-else-s
-returns-else-s c = more-none _ _ _ _ c.step-s.ensures c.if-s.false
+pub returns-in-None : goal.returns-in-None
+returns-in-None c = more-none _ _ _ _ (sym c.in-None.is ∙ c.step.ensures)

@@ -1,43 +1,46 @@
--- `scan::skip_comment` meets its contract: by the byte after '/', a comment of either kind, or a text that is broken there.
+-- By the byte after '/', a comment of either kind, or a text that is broken there.
 use borrow.Author.Tests.{eq-eqb, ne_eqb}
 use native.Mathlib.Omega.{arith}
-use mathlib.Core.Path.{◌∙◌}
+use mathlib.Core.Path.{sym, ◌∙◌}
 use Rattle.grammar.specs.Spelling.{slash, shut}
-use Rattle.scan.specs.Runs.{passed_to}
+use Rattle.scan.specs.Reply.{passed_to, place_of}
 use Rattle.scan.proofs.NextLaws.{next_past, remark-opens, aside-opens, slash-lost}
 use Rattle.scan.proofs.comments.skip_comment.Goals as goal
 
-pub returns-then-b-eq42 : goal.returns-then-b-eq42
-returns-then-b-eq42 c = let a = c.args in
+pub returns-in-42 : goal.returns-in-42
+returns-in-42 c = let a = c.args in
+    let k = (c.in-Some.ensures).lookup in
     let r = c.skip_remark.ensures in
     record {
       low = omega (arith, r.low);
       high = r.high;
-      same = remark-opens a.text.now a.at (omega arith) (eq-eqb _ 42 c.if-b-eq42.true) ∙ r.same;
+      same = remark-opens a.text.now a.at (k.3.0) (eq-eqb _ 42 (sym (k.3.1 0) ∙ c.in-42.is)) ∙ r.same;
     }
 
-pub returns-then-b-eq47 : goal.returns-then-b-eq47
-unfolding passed_to
-returns-then-b-eq47 c = let a = c.args in
+pub returns-in-47 : goal.returns-in-47
+unfolding passed_to place_of
+returns-in-47 c = let a = c.args in
+    let k = (c.in-Some.ensures).lookup in
     let r = c.skip_line.ensures in
-    let no = ne_eqb _ 42 c.if-b-eq42.false in
+    let b = sym (k.3.1 0) ∙ c.in-47.is in
     record {
       low = omega (arith, r.low);
       high = r.high;
-      same = aside-opens a.text.now a.at (omega arith) no (eq-eqb _ 47 c.if-b-eq47.true) ∙ r.same;
+      same = aside-opens a.text.now a.at (k.3.0) (ne_eqb _ 42 (λ e. omega (arith, e, b))) (eq-eqb _ 47 b) ∙ r.same;
     }
 
-pub returns-else-b-eq47 : goal.returns-else-b-eq47
-unfolding passed_to
-returns-else-b-eq47 c = let a = c.args in
-    let no = ne_eqb _ 42 c.if-b-eq42.false in
+pub returns-in_default-b : goal.returns-in_default-b
+unfolding passed_to place_of
+returns-in_default-b c = let a = c.args in
+    let k = (c.in-Some.ensures).lookup in
+    let b = k.3.1 0 in
     record {
       low = omega arith;
       high = omega arith;
-      same = slash-lost a.text.now a.at (omega arith) no (ne_eqb _ 47 c.if-b-eq47.false);
+      same = slash-lost a.text.now a.at (k.3.0) (ne_eqb _ 42 (λ e. omega (arith, b, e))) (ne_eqb _ 47 (λ e. omega (arith, b, e)));
     }
 
-pub returns-else-at-text : goal.returns-else-at-text
-unfolding passed_to shut
-returns-else-at-text c = let a = c.args in
-    record { low = omega arith; high = omega arith; same = next_past a.text.now a.at slash (omega arith) }
+pub returns-in_default : goal.returns-in_default
+unfolding passed_to place_of shut
+returns-in_default c = let a = c.args in
+    record { low = omega arith; high = omega arith; same = next_past a.text.now a.at slash (c.in_default.ensures).lookup.3 }

@@ -1,34 +1,17 @@
--- `words::found` meets its contract: the loop's invariant is `Sought`. Assumes nothing.
-use Rattle.std.proofs.Common.{arith}
-use Rattle.words.proofs.Groups.{sought-start, found_here, found-next, found_none}
+-- The word is sought in the rest of the group.
+use Rattle.std.proofs.Common.{ap, ◌∙◌}
+use Rattle.grammar.specs.Leads.{same}
+use Rattle.words.proofs.Groups.{sought-start, found_here, found-next, found_none, class-after, later-words}
 use Rattle.words.proofs.literals.found.Goals as goal
 
-pub loop-at-init : goal.loop-at-init
-loop-at-init c = sought-start _ _
-
-pub overflow_sub-group : goal.overflow_sub-group
-overflow_sub-group c = omega arith
-
-pub overflow_add-end : goal.overflow_add-end
-overflow_add-end c = omega arith
-
-pub slice_bounds-same-count : goal.slice_bounds-same-count
-slice_bounds-same-count c = omega arith
-
-pub bounds-group-end : goal.bounds-group-end
-bounds-group-end c = omega arith
+pub loop-rest-init : goal.loop-rest-init
+loop-rest-init c = sought-start _ _
 
 pub returns-then-same : goal.returns-then-same
-returns-then-same c = search (found_here, arith)
+returns-then-same c = class-after c.loop-rest.rest.now c.split_at.result.1.now _ c.split_at.ensures.back ∙ found_here _ _ _ c.loop-rest.invariant c.loop-rest-test.true (c.same.ensures ∙ ap (λ l. same l c.args.t.now) c.split_at.ensures.front) c.if-same.true
 
-pub overflow_add-at : goal.overflow_add-at
-overflow_add-at c = omega arith
-
-pub loop-at-smaller : goal.loop-at-smaller
-loop-at-smaller c = omega arith
-
-pub loop-at-preserved : goal.loop-at-preserved
-loop-at-preserved c = search (found-next, arith)
+pub loop-rest-preserved : goal.loop-rest-preserved
+loop-rest-preserved c = found-next _ _ _ c.loop-rest.invariant c.loop-rest-test.true (c.same.ensures ∙ ap (λ l. same l c.args.t.now) c.split_at.ensures.front) c.if-same.false _ (later-words c.loop-rest.rest.now c.split_at.result.1.now _ c.split_at.ensures.back)
 
 pub returns : goal.returns
-returns c = search (found_none, arith)
+returns c = found_none _ _ _ c.loop-rest.invariant c.loop-rest-test.false

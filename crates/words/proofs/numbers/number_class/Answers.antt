@@ -1,33 +1,17 @@
--- `words::number_class` meets its contract. Assumes nothing.
-use Rattle.std.proofs.Common.{arith}
+-- The first bound that the number does not pass.
+use borrow.Author.Tests.{tests}
+use Rattle.std.proofs.Common.{arith, rules, ◌<◌, ◌≤◌}
+use Rattle.std.proofs.lemmas.Iterator.{YieldsList-from_slice, IsFirst-from_position}
 use Rattle.notation.specs.Classes.{bounds}
-use Rattle.words.proofs.ClassLaws.{past, upto, all_past}
+use Rattle.words.proofs.ClassLaws.{class-first, class-none}
 use Rattle.words.proofs.numbers.number_class.Goals as goal
 
-pub returns-then-n-le65534 : goal.returns-then-n-le65534
+pub returns-in-Some : goal.returns-in-Some
 unfolding bounds
-returns-then-n-le65534 c = upto _ _ _ _ (omega arith)
+returns-in-Some c = let p = IsFirst-from_position _ _ _ (λ x. c.args.n ≤ x) (λ x. x < c.args.n) c.in-Some.ensures.ran (YieldsList-from_slice bounds cc) (λ x q k. search (rules, tests)) (λ x q k. search (rules, tests)) in
+    class-first bounds 68 _ _ p.0 (p.1 0) (λ j l. p.2 j 0 (omega arith) l)
 
-pub returns-then-n-le65535 : goal.returns-then-n-le65535
+pub returns-in-None : goal.returns-in-None
 unfolding bounds
-returns-then-n-le65535 c = past _ _ _ _ (omega arith) (upto _ _ _ _ (omega arith))
-
-pub returns-then-n-le999999999999999 : goal.returns-then-n-le999999999999999
-unfolding bounds
-returns-then-n-le999999999999999 c = past _ _ _ _ (omega arith) (past _ _ _ _ (omega arith) (upto _ _ _ _ (omega arith)))
-
-pub returns-then-n-le9218868437227405311 : goal.returns-then-n-le9218868437227405311
-unfolding bounds
-returns-then-n-le9218868437227405311 c = past _ _ _ _ (omega arith) (past _ _ _ _ (omega arith) (past _ _ _ _ (omega arith) (upto _ _ _ _ (omega arith))))
-
-pub returns-then-n-le9223372036854775807 : goal.returns-then-n-le9223372036854775807
-unfolding bounds
-returns-then-n-le9223372036854775807 c = past _ _ _ _ (omega arith) (past _ _ _ _ (omega arith) (past _ _ _ _ (omega arith) (past _ _ _ _ (omega arith) (upto _ _ _ _ (omega arith)))))
-
-pub returns-then-n-le9223372036854775808 : goal.returns-then-n-le9223372036854775808
-unfolding bounds
-returns-then-n-le9223372036854775808 c = past _ _ _ _ (omega arith) (past _ _ _ _ (omega arith) (past _ _ _ _ (omega arith) (past _ _ _ _ (omega arith) (past _ _ _ _ (omega arith) (upto _ _ _ _ (omega arith))))))
-
-pub returns : goal.returns
-unfolding bounds
-returns c = past _ _ _ _ (omega arith) (past _ _ _ _ (omega arith) (past _ _ _ _ (omega arith) (past _ _ _ _ (omega arith) (past _ _ _ _ (omega arith) (past _ _ _ _ (omega arith) (all_past _ _))))))
+returns-in-None c = let p = IsFirst-from_position _ _ _ (λ x. c.args.n ≤ x) (λ x. x < c.args.n) c.in-None.ensures.ran (YieldsList-from_slice bounds cc) (λ x q k. search (rules, tests)) (λ x q k. search (rules, tests)) in
+    class-none bounds 68 _ (λ j l. p j 0 (omega arith) l)

@@ -1,13 +1,9 @@
--- `words::signed` meets its contract. Assumes nothing.
 use Rattle.std.proofs.Common.{arith}
-use Rattle.words.proofs.SignedLaws.{signed-plus, signed-zero, signed-minus}
+use Rattle.words.proofs.SignedLaws.{signed-plus, signed-negated}
 use Rattle.words.proofs.numbers.signed.Goals as goal
 
-pub returns-then-not-negative : goal.returns-then-not-negative
-returns-then-not-negative c = search (signed-plus, arith)
+pub returns-then-negative : goal.returns-then-negative
+returns-then-negative c = signed-negated _ _ _ c.if-negative.true (omega arith) (omega (arith, c.wrapping_neg.type_inv)) c.wrapping_neg.ensures
 
-pub returns-then-n-eq0 : goal.returns-then-n-eq0
-returns-then-n-eq0 c = search (signed-zero, arith)
-
-pub returns : goal.returns
-returns c = signed-minus _ _ c.if-not-negative.false-raw c.if-n-eq0.false (omega arith)
+pub returns-else-negative : goal.returns-else-negative
+returns-else-negative c = signed-plus _ _ c.if-negative.false

@@ -1,49 +1,24 @@
--- `words::real_prefix` meets its contract: the loop's invariant is `Decimal`. Assumes nothing.
-use Rattle.std.proofs.Common.{arith}
-use Rattle.words.proofs.RunLaws.{decimal-none, decimal-not, decimal-start, decimal-all, decimal-dot, decimal-full, decimal-stop, decimal-next}
+-- By what follows the digits that stand first.
+use Rattle.std.proofs.Common.{arith, add-one, sym, ◌∙◌}
+use Rattle.words.proofs.DecimalLaws.{none-first, after-first}
 use Rattle.words.proofs.prefixes.real_prefix.Goals as goal
 
-pub returns-then-t-eq0 : goal.returns-then-t-eq0
-returns-then-t-eq0 c = search (decimal-none, arith)
+pub returns-then-whole-eq0 : goal.returns-then-whole-eq0
+returns-then-whole-eq0 c = (none-first _ _ c.digits_end-whole.ensures c.if-whole-eq0.true).1
 
-pub bounds-t-0 : goal.bounds-t-0
-bounds-t-0 c = omega arith
+pub returns-then-whole-t : goal.returns-then-whole-t
+returns-then-whole-t c = sym ((after-first _ _ c.digits_end-whole.ensures c.if-whole-eq0.false).nothing c.if-whole-t.true).1
 
-pub returns-then-not-is_digit : goal.returns-then-not-is_digit
-returns-then-not-is_digit c = search (decimal-not, arith)
+pub bounds-t-whole : goal.bounds-t-whole
+bounds-t-whole c = omega (arith, (after-first _ _ c.digits_end-whole.ensures c.if-whole-eq0.false).fits)
 
-pub loop-i-init : goal.loop-i-init
-loop-i-init c = search (decimal-start, arith)
+pub returns-then-t-whole-ne46 : goal.returns-then-t-whole-ne46
+returns-then-t-whole-ne46 c = let a = after-first _ _ c.digits_end-whole.ensures c.if-whole-eq0.false in
+    sym (a.other (omega (arith, a.fits)) c.if-t-whole-ne46.true).1
 
-pub bounds-t-i : goal.bounds-t-i
-bounds-t-i c = omega arith
-
-pub overflow_add-i : goal.overflow_add-i
-overflow_add-i c = omega arith
-
-pub overflow_add-k : goal.overflow_add-k
-overflow_add-k c = omega arith
-
-pub returns-then-b-eq46 : goal.returns-then-b-eq46
-returns-then-b-eq46 c = search (decimal-dot, arith)
-
-pub returns-then-k-eq0 : goal.returns-then-k-eq0
-returns-then-k-eq0 c = search (decimal-full, arith)
-
-pub returns-then-not-is_digit-2 : goal.returns-then-not-is_digit-2
-returns-then-not-is_digit-2 c = search (decimal-stop, arith)
-
-pub overflow_add-i-in-loop-i : goal.overflow_add-i-in-loop-i
-overflow_add-i-in-loop-i c = omega arith
-
-pub overflow_sub-k : goal.overflow_sub-k
-overflow_sub-k c = omega arith
-
-pub loop-i-smaller : goal.loop-i-smaller
-loop-i-smaller c = omega arith
-
-pub loop-i-preserved : goal.loop-i-preserved
-loop-i-preserved c = search (decimal-next, arith)
+pub overflow_sub-whole : goal.overflow_sub-whole
+overflow_sub-whole c = omega (arith, (after-first _ _ c.digits_end-whole.ensures c.if-whole-eq0.false).few)
 
 pub returns : goal.returns
-returns c = search (decimal-all, arith)
+returns c = let a = after-first _ _ c.digits_end-whole.ensures c.if-whole-eq0.false in
+    c.digits_end.ensures ∙ sym (a.point _ _ (omega (arith, a.few)) (add-one _) (omega (arith, a.fits)) c.if-t-whole-ne46.false).1

@@ -1,0 +1,25 @@
+-- By what follows the digits that stand first.
+use Rattle.std.proofs.Common.{◌+◌, ap, arith, add-one, sym, ◌∙◌}
+use Rattle.grammar.specs.Leads.{fraction}
+use Rattle.words.proofs.DecimalLaws.{rest_of, none-first, after-first}
+use Rattle.words.proofs.decimals.is_real.Goals as goal
+
+pub returns-then-whole-eq0 : goal.returns-then-whole-eq0
+returns-then-whole-eq0 c = (none-first _ _ c.digits_end-whole.ensures c.if-whole-eq0.true).0
+
+pub returns-then-whole-t : goal.returns-then-whole-t
+returns-then-whole-t c = sym ((after-first _ _ c.digits_end-whole.ensures c.if-whole-eq0.false).nothing c.if-whole-t.true).0
+
+pub bounds-t-whole : goal.bounds-t-whole
+bounds-t-whole c = omega (arith, (after-first _ _ c.digits_end-whole.ensures c.if-whole-eq0.false).fits)
+
+pub returns-then-t-whole-ne46 : goal.returns-then-t-whole-ne46
+returns-then-t-whole-ne46 c = let a = after-first _ _ c.digits_end-whole.ensures c.if-whole-eq0.false in
+    sym (a.other (omega (arith, a.fits)) c.if-t-whole-ne46.true).0
+
+pub overflow_sub-whole : goal.overflow_sub-whole
+overflow_sub-whole c = omega (arith, (after-first _ _ c.digits_end-whole.ensures c.if-whole-eq0.false).few)
+
+pub returns : goal.returns
+returns c = let a = after-first _ _ c.digits_end-whole.ensures c.if-whole-eq0.false in
+    c.is_fraction.ensures ∙ ap (fraction _) (rest_of c.args.t.now (c.digits_end-whole.result + 1)) ∙ sym (a.point _ _ (omega (arith, a.few)) (add-one _) (omega (arith, a.fits)) c.if-t-whole-ne46.false).0
