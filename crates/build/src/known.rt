@@ -1,9 +1,7 @@
 // What the names of a text mean, from the tables of its declarations.
 ghost use Rattle.build.specs.Known.{tables, StandsAt, MeansVariable, MeansLookup, MeansCommand, MeansFirst, MeansPart};
 
-use names::{
-    NameFound, Told, child_of, command_number, command_of, lookup_of, node_up, variable_of,
-};
+use names::{Told, child_of, command_number, command_of, lookup_of, node_up, variable_of};
 use recognise::Cursor;
 
 // A declaration's number and kind.
@@ -51,11 +49,9 @@ pub fn variable<'a>(
         return Meaning { number: 0, kind: 0 };
     }
     let f = variable_of(text, from, to, owner, told, n, &text[a..e]);
-    let k = standing(kind, 320, told.variables, f.place);
-    Meaning {
-        number: f.place,
-        kind: k,
-    }
+    let number = f.unwrap_or(0);
+    let kind = standing(kind, 320, told.variables, number);
+    Meaning { number, kind }
 }
 
 // The lookup that it names.
@@ -79,11 +75,9 @@ pub fn lookup<'a>(
         return Meaning { number: 0, kind: 0 };
     }
     let f = lookup_of(text, from, to, owner, told, &text[a..e]);
-    let k = standing(kind, 256, told.lookups, f.place);
-    Meaning {
-        number: f.place,
-        kind: k,
-    }
+    let number = f.unwrap_or(0);
+    let kind = standing(kind, 256, told.lookups, number);
+    Meaning { number, kind }
 }
 
 // The number of the command that it names: the table has the first 256 of them.
@@ -107,7 +101,7 @@ pub fn command<'a>(
         return 0;
     }
     let f = command_of(text, from, to, owner, told, &text[a..e]);
-    let i = f.place;
+    let i = f.unwrap_or(0);
     if i < 256 {
         return kind[i];
     }

@@ -1,10 +1,10 @@
 // Paths to nodes, and what is asked of a node.
-ghost use Rattle.std.specs.Prelude.{◌<◌};
+ghost use Rattle.std.specs.Prelude.{◌<◌, unwrap_or};
 ghost use Rattle.build.specs.Known.{tables, MeansFirst, MeansPart};
 ghost use Rattle.build.specs.Questions.{Walks, OfQuestion, op_of, code_in, not_in};
 
 use super::steps::next;
-use names::{NameFound, Told, child_of, node_up};
+use names::{Told, child_of, node_up};
 use recognise::Cursor;
 
 // A question that has been heard, and the number of the node that it is about.
@@ -24,28 +24,19 @@ fn first_part<'a>(
     told: Told,
     n: usize,
     at: Cursor,
-) -> NameFound
+) -> Option<usize>
     ensures { MeansFirst text.now (tables from.now to.now owner.now kind.now told) n at result }
 {
     let a = at.from;
     let e = at.to;
     if e < a {
-        return NameFound {
-            found: false,
-            place: 0,
-        };
+        return None;
     }
     if text.len() < e {
-        return NameFound {
-            found: false,
-            place: 0,
-        };
+        return None;
     }
     if n >= 65535 {
-        return NameFound {
-            found: false,
-            place: 0,
-        };
+        return None;
     }
     node_up(text, from, to, owner, told, n, &text[a..e])
 }
@@ -58,10 +49,10 @@ fn part<'a>(
     owner: &'a [usize; 10525],
     kind: &'a [usize; 704],
     told: Told,
-    m: NameFound,
+    m: Option<usize>,
     at: Cursor,
-) -> NameFound
-    requires { m.place < 18446744073709551615 }
+) -> Option<usize>
+    requires { unwrap_or m 0 < 18446744073709551615 }
     ensures { MeansPart text.now (tables from.now to.now owner.now kind.now told) m at result }
 {
     let a = at.from;
@@ -72,10 +63,8 @@ fn part<'a>(
     if text.len() < e {
         return m;
     }
-    if !m.found {
-        return m;
-    }
-    child_of(text, from, to, owner, told, m.place, &text[a..e])
+    let above = m?;
+    child_of(text, from, to, owner, told, above, &text[a..e])
 }
 
 // Along the path that begins with the token at `at` to its question; the saying after that token has been heard at c.
@@ -100,7 +89,7 @@ pub fn walk<'a>(
         if to_ask.says != 44 {
             return Question {
                 at: to_ask,
-                number: found.place,
+                number: found.unwrap_or(0),
             };
         }
         found = part(text, from, to, owner, kind, told, found, to_ask);
@@ -109,7 +98,7 @@ pub fn walk<'a>(
     }
     Question {
         at: to_ask,
-        number: found.place,
+        number: found.unwrap_or(0),
     }
 }
 

@@ -8,7 +8,6 @@ ghost use Rattle.names.specs.Answers.{Accepted, found_of, tale_said};
 ghost use Rattle.names.specs.Tables.{Ready};
 ghost use Rattle.names.specs.Judging.{index_no, count_no};
 
-use super::answers::{NameFound, found_nowhere};
 use super::judge::{held_from, judge, path_after};
 use super::table::Told;
 use super::walk::{here, start, step};
@@ -46,7 +45,7 @@ pub fn bad_name<'a>(
     to: &'a [usize; 704],
     owner: &'a [usize; 10525],
     told: Told,
-) -> NameFound
+) -> Option<usize>
     ensures { (l : List (Said Saying)) → Accepted text.now l → Ready text.now (tale_said l) from.now to.now owner.now told → result ≡ found_of (bad_name (draft_of l)) }
 {
     let mut lists = [0usize; 16];
@@ -59,11 +58,11 @@ pub fn bad_name<'a>(
         w = step(text, owner, &mut lists, w);
         let role = w.role;
         if role == 16 {
-            return found_nowhere();
+            return None;
         }
         let i = index_of(role, commands, lookups, variables, w.nodes);
         let bad = judge(text, from, to, owner, told, w, i, p);
-        if bad.found {
+        if bad.is_some() {
             return bad;
         }
         p = path_after(text, from, to, owner, told, w, p);

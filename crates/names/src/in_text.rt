@@ -1,5 +1,5 @@
 // Names sought in the text itself, from its beginning: no table is needed, and no count is too large.
-ghost use Rattle.std.specs.Prelude.{◌≡◌, List, ◌<◌, ◌≤◌, length};
+ghost use Rattle.std.specs.Prelude.{◌≡◌, List, ◌<◌, ◌≤◌, length, unwrap_or};
 ghost use Rattle.grammar.specs.Table.{Said};
 ghost use Rattle.notation.specs.Sayings.{Saying};
 ghost use Rattle.recognise.specs.Hears.{piece};
@@ -8,7 +8,7 @@ ghost use Rattle.names.specs.Seek.{is_called, seek, node_in};
 ghost use Rattle.names.specs.Walking.{sort_no};
 ghost use Rattle.names.specs.Answers.{Accepted, found_of, tale_said, NodeIs, Lies};
 
-use super::answers::{NameFound, NodeFound, found_at, found_nowhere};
+use super::answers::NodeFound;
 use super::walk::{here, start, step};
 use words::same;
 
@@ -37,9 +37,9 @@ pub fn find<'a>(
     sort: u8,
     m: usize,
     x: &'a [u8],
-) -> NameFound
+) -> Option<usize>
     requires { sort < 4 }
-    ensures { ((l : List (Said Saying)) → Accepted text.now l → Tape text.now owner.now → result ≡ found_of (seek sort m x.now (tale_said l))) × (result.place < 18446744073709551615) }
+    ensures { ((l : List (Said Saying)) → Accepted text.now l → Tape text.now owner.now → result ≡ found_of (seek sort m x.now (tale_said l))) × (unwrap_or result 0 < 18446744073709551615) }
 {
     let mut lists = [0usize; 16];
     let mut w = start(owner);
@@ -48,14 +48,14 @@ pub fn find<'a>(
         w = step(text, owner, &mut lists, w);
         let role = w.role;
         if role == 16 {
-            return found_nowhere();
+            return None;
         }
         let from = w.from;
         let to = w.to;
         let mine = w.owner;
         if sort_of(role) == sort {
             if is_called(text, from, to, mine, m, x) {
-                return found_at(count);
+                return Some(count);
             }
             count += 1;
         }

@@ -1,5 +1,5 @@
 // Each mention of a name is in order: a declaration is the first of its name, a use has its declaration (42).
-ghost use Rattle.std.specs.Prelude.{◌≡◌, false, List, [], ◌<◌, ◌≤◌, length};
+ghost use Rattle.std.specs.Prelude.{◌≡◌, false, List, [], ◌<◌, ◌≤◌, length, unwrap_or};
 ghost use Rattle.plexil.specs.Lists.{at};
 ghost use Rattle.grammar.specs.Spelling.{Placed};
 ghost use Rattle.grammar.specs.Table.{Said};
@@ -12,7 +12,6 @@ ghost use Rattle.names.specs.Answers.{Accepted, found_of, tale_said};
 ghost use Rattle.names.specs.Tables.{Ready};
 ghost use Rattle.names.specs.Judging.{part_of, settled_by, PathIs, WalkIn, held_from, unless_of, followed_of, FirstPart, NextPart, PathIn, Judged, PathGoes};
 
-use super::answers::{NameFound, found_at, found_nowhere};
 use super::resolve::{child_of, command_of, lookup_of, node_up, variable_of};
 use super::seek;
 use super::table::Told;
@@ -31,13 +30,13 @@ pub struct Path {
 }
 
 // A name at the place, if it is not in order.
-fn unless(fine: bool, place: usize) -> NameFound
+fn unless(fine: bool, place: usize) -> Option<usize>
     ensures { result ≡ found_of (unless_of fine place) }
 {
     if fine {
-        return found_nowhere();
+        return None;
     }
-    found_at(place)
+    Some(place)
 }
 
 // The declaration i of the sort is the first of its owner and name.
@@ -55,11 +54,10 @@ fn is_first<'a>(
     requires { sort < 4 }
     ensures { (l : List (Said Saying)) → Accepted text.now l → Ready text.now (tale_said l) from.now to.now owner.now told → result ≡ is_at i (seek sort m x.now (tale_said l)) }
 {
-    let f = seek::find(text, from, to, owner, told, sort, m, x);
-    if f.found {
-        return i == f.place;
+    match seek::find(text, from, to, owner, told, sort, m, x) {
+        Some(first) => i == first,
+        None => false,
     }
-    false
 }
 
 // A path's first part upwards from node n, each later one among the children of node n.
@@ -72,9 +70,9 @@ fn sought<'a>(
     first: bool,
     n: usize,
     x: &'a [u8],
-) -> NameFound
+) -> Option<usize>
     requires { n < 18446744073709551615 }
-    ensures { ((l : List (Said Saying)) → Accepted text.now l → Ready text.now (tale_said l) from.now to.now owner.now told → result ≡ found_of (part_of first (draft_of l) n x.now)) × (result.place < 18446744073709551615) }
+    ensures { ((l : List (Said Saying)) → Accepted text.now l → Ready text.now (tale_said l) from.now to.now owner.now told → result ≡ found_of (part_of first (draft_of l) n x.now)) × (unwrap_or result 0 < 18446744073709551615) }
 {
     if first {
         return node_up(text, from, to, owner, told, n, x);
@@ -126,15 +124,16 @@ fn path_next<'a>(
 }
 
 // The path that stands from `from`, after the part at `place` has been looked for.
-fn followed(from: usize, to: usize, f: NameFound, place: usize) -> Path
+#[tactic(auto, unfolding(crate::specs::Judging::followed_of))]
+fn followed(from: usize, to: usize, f: Option<usize>, place: usize) -> Path
     ensures { result ≡ followed_of from to f place }
 {
     Path {
         held: 2,
         from,
         to,
-        node: f.place,
-        lost: !f.found,
+        node: f.unwrap_or(0),
+        lost: f.is_none(),
         stray: place,
     }
 }
@@ -148,18 +147,18 @@ fn ask<'a>(
     told: Told,
     n: usize,
     p: Path,
-) -> NameFound
+) -> Option<usize>
     requires { (n < 18446744073709551615) × PathIn text.now p }
     ensures { (l : List (Said Saying)) → Accepted text.now l → Ready text.now (tale_said l) from.now to.now owner.now told → (ts : List Placed) → PathIs text.now (draft_of l) n ts p → result ≡ found_of (bad_mention (draft_of l) (parts n [] ts)) }
 {
     let q = path_first(text, from, to, owner, told, n, p);
     if q.held != 2 {
-        return found_nowhere();
+        return None;
     }
     if q.lost {
-        return found_at(q.stray);
+        return Some(q.stray);
     }
-    found_nowhere()
+    None
 }
 
 // A held name was a variable's.
@@ -171,17 +170,17 @@ fn settle<'a>(
     told: Told,
     n: usize,
     p: Path,
-) -> NameFound
+) -> Option<usize>
     requires { PathIn text.now p }
     ensures { (l : List (Said Saying)) → Accepted text.now l → Ready text.now (tale_said l) from.now to.now owner.now told → (ts : List Placed) → PathIs text.now (draft_of l) n ts p → result ≡ found_of (bad_mention (draft_of l) (settled_by n ts)) }
 {
     if p.held == 0 {
-        return found_nowhere();
+        return None;
     }
     let a = p.from;
     let e = p.to;
     let f = variable_of(text, from, to, owner, told, n, &text[a..e]);
-    unless(f.found, a)
+    unless(f.is_some(), a)
 }
 
 // What a saying mentions is in order; i is the number of what it declares.
@@ -194,7 +193,7 @@ pub fn judge<'a>(
     w: Walk,
     i: usize,
     p: Path,
-) -> NameFound
+) -> Option<usize>
     requires { WalkIn text.now w × PathIn text.now p }
     ensures { (l : List (Said Saying)) → Accepted text.now l → Ready text.now (tale_said l) from.now to.now owner.now told → Judged text.now l w i p result }
 {
@@ -210,15 +209,15 @@ pub fn judge<'a>(
     }
     if role == 7 {
         let f = command_of(text, from, to, owner, told, &text[a..e]);
-        return unless(f.found, a);
+        return unless(f.is_some(), a);
     }
     if role == 8 {
         let f = variable_of(text, from, to, owner, told, n, &text[a..e]);
-        return unless(f.found, a);
+        return unless(f.is_some(), a);
     }
     if role == 9 {
         let f = lookup_of(text, from, to, owner, told, &text[a..e]);
-        return unless(f.found, a);
+        return unless(f.is_some(), a);
     }
     if role == 12 {
         return ask(text, from, to, owner, told, n, p);
@@ -226,7 +225,7 @@ pub fn judge<'a>(
     if role == 13 {
         return settle(text, from, to, owner, told, n, p);
     }
-    found_nowhere()
+    None
 }
 
 // The held name or path after a saying.

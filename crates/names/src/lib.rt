@@ -14,7 +14,7 @@ mod seek;
 mod table;
 mod walk;
 
-pub use answers::{NameFound, NodeFound};
+pub use answers::NodeFound;
 pub use bad::bad_name;
 pub use filling::fill;
 pub use kinds::fill_kinds;

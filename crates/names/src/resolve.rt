@@ -1,5 +1,5 @@
 // Which declaration a name means: up from the node that uses it, down a path.
-ghost use Rattle.std.specs.Prelude.{◌≡◌, List, suc, ◌<◌};
+ghost use Rattle.std.specs.Prelude.{◌≡◌, List, suc, ◌<◌, unwrap_or};
 ghost use Rattle.grammar.specs.Table.{Said};
 ghost use Rattle.notation.specs.Sayings.{Saying};
 ghost use Rattle.notation.specs.Hearing.{draft_of};
@@ -7,7 +7,6 @@ ghost use Rattle.notation.specs.Names.{command_of, lookup_of, variable_of, child
 ghost use Rattle.names.specs.Answers.{Accepted, found_of, tale_said, ParentOf};
 ghost use Rattle.names.specs.Tables.{Ready};
 
-use super::answers::{NameFound, found_at, found_nowhere};
 use super::seek;
 use super::table::Told;
 use words::same;
@@ -20,7 +19,7 @@ pub fn command_of<'a>(
     owner: &'a [usize; 10525],
     told: Told,
     x: &'a [u8],
-) -> NameFound
+) -> Option<usize>
     ensures { (l : List (Said Saying)) → Accepted text.now l → Ready text.now (tale_said l) from.now to.now owner.now told → result ≡ found_of (command_of (draft_of l) x.now) }
 {
     seek::find(text, from, to, owner, told, 0, 0, x)
@@ -33,7 +32,7 @@ pub fn lookup_of<'a>(
     owner: &'a [usize; 10525],
     told: Told,
     x: &'a [u8],
-) -> NameFound
+) -> Option<usize>
     ensures { (l : List (Said Saying)) → Accepted text.now l → Ready text.now (tale_said l) from.now to.now owner.now told → result ≡ found_of (lookup_of (draft_of l) x.now) }
 {
     seek::find(text, from, to, owner, told, 1, 0, x)
@@ -48,9 +47,9 @@ pub fn child_of<'a>(
     told: Told,
     m: usize,
     x: &'a [u8],
-) -> NameFound
+) -> Option<usize>
     requires { m < 18446744073709551615 }
-    ensures { ((l : List (Said Saying)) → Accepted text.now l → Ready text.now (tale_said l) from.now to.now owner.now told → result ≡ found_of (child_of (draft_of l) m x.now)) × (result.place < 18446744073709551615) }
+    ensures { ((l : List (Said Saying)) → Accepted text.now l → Ready text.now (tale_said l) from.now to.now owner.now told → result ≡ found_of (child_of (draft_of l) m x.now)) × (unwrap_or result 0 < 18446744073709551615) }
 {
     seek::find(text, from, to, owner, told, 3, m + 1, x)
 }
@@ -82,21 +81,21 @@ pub fn variable_of<'a>(
     told: Told,
     n: usize,
     x: &'a [u8],
-) -> NameFound
+) -> Option<usize>
     ensures { (l : List (Said Saying)) → Accepted text.now l → Ready text.now (tale_said l) from.now to.now owner.now told → result ≡ found_of (variable_of (draft_of l) n x.now) }
 {
     let mut node = n;
     let mut left = n;
     loop {
         let own = seek::find(text, from, to, owner, told, 2, node, x);
-        if own.found {
+        if own.is_some() {
             return own;
         }
         if node == 0 {
-            return found_nowhere();
+            return None;
         }
         if left == 0 {
-            return found_nowhere();
+            return None;
         }
         left -= 1;
         node = parent_of(text, from, to, owner, told, node);
@@ -112,15 +111,15 @@ fn node_at<'a>(
     told: Told,
     n: usize,
     x: &'a [u8],
-) -> NameFound
+) -> Option<usize>
     requires { n < 18446744073709551615 }
-    ensures { ((l : List (Said Saying)) → Accepted text.now l → Ready text.now (tale_said l) from.now to.now owner.now told → result ≡ found_of (node_at (draft_of l) n x.now)) × (result.place < 18446744073709551615) }
+    ensures { ((l : List (Said Saying)) → Accepted text.now l → Ready text.now (tale_said l) from.now to.now owner.now told → result ≡ found_of (node_at (draft_of l) n x.now)) × (unwrap_or result 0 < 18446744073709551615) }
 {
     let e = seek::node(text, from, to, owner, told, n);
     let a = e.from;
     let b = e.to;
     if same(&text[a..b], x) {
-        return found_at(n);
+        return Some(n);
     }
     child_of(text, from, to, owner, told, n, x)
 }
@@ -134,22 +133,22 @@ pub fn node_up<'a>(
     told: Told,
     n: usize,
     x: &'a [u8],
-) -> NameFound
+) -> Option<usize>
     requires { n < 18446744073709551615 }
-    ensures { ((l : List (Said Saying)) → Accepted text.now l → Ready text.now (tale_said l) from.now to.now owner.now told → result ≡ found_of (node_up (draft_of l) (suc n) n x.now)) × (result.place < 18446744073709551615) }
+    ensures { ((l : List (Said Saying)) → Accepted text.now l → Ready text.now (tale_said l) from.now to.now owner.now told → result ≡ found_of (node_up (draft_of l) (suc n) n x.now)) × (unwrap_or result 0 < 18446744073709551615) }
 {
     let mut node = n;
     let mut left = n;
     loop {
         let there = node_at(text, from, to, owner, told, node, x);
-        if there.found {
+        if there.is_some() {
             return there;
         }
         if node == 0 {
-            return found_nowhere();
+            return None;
         }
         if left == 0 {
-            return found_nowhere();
+            return None;
         }
         left -= 1;
         node = parent_of(text, from, to, owner, told, node);

@@ -1,12 +1,12 @@
 // Names sought: in the tables where they have the whole text, else in the text itself.
-ghost use Rattle.std.specs.Prelude.{◌≡◌, List, ◌<◌};
+ghost use Rattle.std.specs.Prelude.{◌≡◌, List, ◌<◌, unwrap_or};
 ghost use Rattle.grammar.specs.Table.{Said};
 ghost use Rattle.notation.specs.Sayings.{Saying};
 ghost use Rattle.names.specs.Seek.{seek, node_in};
 ghost use Rattle.names.specs.Answers.{Accepted, found_of, tale_said, NodeIs, Lies};
 ghost use Rattle.names.specs.Tables.{Ready};
 
-use super::answers::{NameFound, NodeFound, found_nowhere};
+use super::answers::NodeFound;
 use super::table::Told;
 use super::{in_text, table};
 
@@ -20,14 +20,14 @@ pub fn find<'a>(
     sort: u8,
     m: usize,
     x: &'a [u8],
-) -> NameFound
+) -> Option<usize>
     requires { sort < 4 }
-    ensures { ((l : List (Said Saying)) → Accepted text.now l → Ready text.now (tale_said l) from.now to.now owner.now told → result ≡ found_of (seek sort m x.now (tale_said l))) × (result.place < 18446744073709551615) }
+    ensures { ((l : List (Said Saying)) → Accepted text.now l → Ready text.now (tale_said l) from.now to.now owner.now told → result ≡ found_of (seek sort m x.now (tale_said l))) × (unwrap_or result 0 < 18446744073709551615) }
 {
     if told.whole {
         let count = table::count_of(told, sort);
         if count > table::room_of(sort) {
-            return found_nowhere();
+            return None;
         }
         let base = table::base_of(sort);
         return table::find(text, from, to, owner, base, count, m, x);

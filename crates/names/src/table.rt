@@ -1,11 +1,11 @@
 // Tables of declarations, for texts within the limits: in each array the rows of the commands, the lookups, the variables and the nodes, one sort after another.
-ghost use Rattle.std.specs.Prelude.{◌≡◌, ◌<◌, ◌≤◌, ◌+◌};
+ghost use Rattle.std.specs.Prelude.{◌≡◌, ◌<◌, ◌≤◌, ◌+◌, unwrap_or};
 ghost use Rattle.notation.specs.Names.{find_from};
 ghost use Rattle.names.specs.Seek.{is_called};
 ghost use Rattle.names.specs.Answers.{found_of, Lies, NodeIs};
 ghost use Rattle.names.specs.Tables.{base_of, room_of, count_of, row_at, rows, Fair};
 
-use super::answers::{NameFound, NodeFound, found_at, found_nowhere};
+use super::answers::NodeFound;
 use super::in_text::is_called;
 
 // How many rows each sort has; `whole` where the tables have every declaration of the text.
@@ -73,9 +73,9 @@ pub fn find<'a>(
     count: usize,
     m: usize,
     x: &'a [u8],
-) -> NameFound
+) -> Option<usize>
     requires { base + count ≤ 704 }
-    ensures { (Fair text.now from.now to.now base count → result ≡ found_of (find_from 0 (is_called m x.now) (rows text.now from.now to.now owner.now base count))) × (result.place < 18446744073709551615) }
+    ensures { (Fair text.now from.now to.now base count → result ≡ found_of (find_from 0 (is_called m x.now) (rows text.now from.now to.now owner.now base count))) × (unwrap_or result 0 < 18446744073709551615) }
 {
     let mut i = 0;
     while i < count {
@@ -84,17 +84,17 @@ pub fn find<'a>(
         let e = to[j];
         let o = owner[j];
         if a > e {
-            return found_nowhere();
+            return None;
         }
         if e > text.len() {
-            return found_nowhere();
+            return None;
         }
         if is_called(text, a, e, o, m, x) {
-            return found_at(i);
+            return Some(i);
         }
         i += 1;
     }
-    found_nowhere()
+    None
 }
 
 // The row at place j, where its name lies in the text.

@@ -54,9 +54,8 @@ fn named<'a>(
     ensures { (l : List (Said Saying)) → Accepted text.now l → seen ≡ accepted_as (draft_of l) → Ready text.now (tale_said l) from.now to.now owner.now told
         → result ≡ named_by (bad_name (draft_of l)) (draft_of l) room }
 {
-    let bad = names::bad_name(text, from, to, owner, told);
-    if bad.found {
-        return refused(42, bad.place);
+    if let Some(place) = names::bad_name(text, from, to, owner, told) {
+        return refused(42, place);
     }
     if over_limits(seen) {
         return refused(3, 0);

@@ -1,4 +1,5 @@
 use Prim.Native.Nat.{◌+◌, ◌-◌, ◌≤◌}
+use mathlib.Core.Path.{◌∙◌}
 use mathlib.Core.List.{[]}
 use native.Mathlib.Omega.{arith}
 use Rattle.notation.specs.Hearing.{◌▸◌}
@@ -14,7 +15,7 @@ loop-turns-init c = (c.first_part-found.ensures.1, λ s n ps size es ms h kn z h
 pub returns-then-to_ask-ne44 : goal.returns-then-to_ask-ne44
 returns-then-to_ask-ne44 c s n ps size es ms h kn small m lies e hl = let z = first_found s.whole _ _ _ h (c.first_part-found.ensures.0 s.whole kn small lies) e in
     let t = c.loop-turns.invariant.1 s n ps size es ms h kn z hl in
-    (t.0, held_at _ s n ps _ es ms h size _ t.0 (omega arith) t.1, (λ q. c.if-to_ask-ne44.true q), place_is _ _ t.2)
+    (t.0, held_at _ s n ps _ es ms h size _ t.0 (omega arith) t.1, (λ q. c.if-to_ask-ne44.true q), c.unwrap_or.ensures ∙ place_is _ _ t.2)
 
 -- src/paths.rt:91:9
 pub part-found-requires : goal.part-found-requires

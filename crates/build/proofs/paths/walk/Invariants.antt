@@ -1,3 +1,4 @@
+use Rattle.std.specs.Prelude.{unwrap_or}
 use Prim.Native.Nat.{ℕ, ◌-◌, ◌<◌}
 use mathlib.Core.Path.{◌≡◌}
 use mathlib.Core.List.{List, [], ◌∷◌}
@@ -12,7 +13,7 @@ use Rattle.build.specs.Named.{Held}
 use Rattle.build.proofs.paths.walk.Given as goal
 
 abbrev pub invariant-loop-turns : goal.invariant-loop-turns
-invariant-loop-turns l = (l.found.place < 18446744073709551615) × ((s : Scene) (n : ℕ) (ps : List Pending) (size : ℕ) (es : List Entry) (ms : List Mentioned) (h : Placed) → Known l.text s.whole (tables l.from l.to l.owner l.kind l.told)
+invariant-loop-turns l = (unwrap_or l.found 0 < 18446744073709551615) × ((s : Scene) (n : ℕ) (ps : List Pending) (size : ℕ) (es : List Entry) (ms : List Mentioned) (h : Placed) → Known l.text s.whole (tables l.from l.to l.owner l.kind l.told)
     → l.initial.found ≡ found_of (node_of s.whole l.node (all_bytes (h ∷ []))) → Held l.text s n ps size l.initial.to_ask es ms (h ∷ [])
     → (hs : List Placed) × Held l.text s n ps (size - l.turns) l.to_ask es ms (h ∷ hs) × (l.found ≡ found_of (node_of s.whole l.node (all_bytes (h ∷ hs)))))
 

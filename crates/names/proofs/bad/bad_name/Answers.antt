@@ -1,4 +1,5 @@
 -- `names::bad::bad_name` meets its contract. The invariant: what has been told is counted, and each name of it is in order.
+use Rattle.names.proofs.GoingUp.{none-is}
 use mathlib.Core.Path.{refl, ap, sym, ◌∙◌}
 use native.Mathlib.Omega.{arith}
 use Rattle.notation.specs.Hearing.{draft_of}
@@ -25,14 +26,14 @@ pub step-w-requires : goal.step-w-requires
 step-w-requires c = c.loop-told.invariant.0
 
 pub returns-then-role-eq16 : goal.returns-then-role-eq16
-returns-then-role-eq16 c = λ l a r. c.found_nowhere.ensures ∙ ap found_of (sym (all-fine _ l a _ _ _ _ _ (all_told _ _ _ _ _ _ c.step-w.ensures l a r.tape c.if-role-eq16.true (c.loop-told.invariant.5 l a r)).1))
+returns-then-role-eq16 c = λ l a r. none-is ∙ ap found_of (sym (all-fine _ l a _ _ _ _ _ (all_told _ _ _ _ _ _ c.step-w.ensures l a r.tape c.if-role-eq16.true (c.loop-told.invariant.5 l a r)).1))
 
 pub judge-bad-requires : goal.judge-bad-requires
 judge-bad-requires c = (record { ordered = c.step-w.ensures.ordered; within = c.step-w.ensures.within; small = omega (arith, c.step-w.ensures.bounded.nodes, c.step-w.ensures.bounded.place) }, c.loop-told.invariant.4)
 
-pub returns-then-bad : goal.returns-then-bad
+pub returns-then-is_some : goal.returns-then-is_some
 unfolding Judging.Judged
-returns-then-bad c = λ l a r. let n = newly _ _ _ _ _ _ c.step-w.ensures l a r.tape c.if-role-eq16.false (c.loop-told.invariant.5 l a r) in found-bad _ l a _ _ _ _ n _ (c.judge-bad.ensures l a r n.tale n.said (newly-hearing _ l a _ _ _ _ n) (λ h. c.index_of-i.ensures ∙ newly-index _ l a _ _ _ _ n h) n.known.path) c.if-bad.true
+returns-then-is_some c = λ l a r. let n = newly _ _ _ _ _ _ c.step-w.ensures l a r.tape c.if-role-eq16.false (c.loop-told.invariant.5 l a r) in found-bad _ l a _ _ _ _ n _ (c.judge-bad.ensures l a r n.tale n.said (newly-hearing _ l a _ _ _ _ n) (λ h. c.index_of-i.ensures ∙ newly-index _ l a _ _ _ _ n h) n.known.path) (sym c.is_some.ensures ∙ c.if-is_some.true)
 
 pub path_after-p-requires : goal.path_after-p-requires
 path_after-p-requires c = (record { ordered = c.step-w.ensures.ordered; within = c.step-w.ensures.within; small = omega (arith, c.step-w.ensures.bounded.nodes, c.step-w.ensures.bounded.place) }, c.loop-told.invariant.4)
@@ -60,5 +61,5 @@ loop-told-preserved c = (
   λ l a r.
       let n = newly _ _ _ _ _ _ c.step-w.ensures l a r.tape c.if-role-eq16.false (c.loop-told.invariant.5 l a r) in
       rw (c.counted-commands.ensures, c.counted-lookups.ensures, c.counted-variables.ensures)
-      (onwards n (upright-on _ l a _ _ _ _ n c.judge-bad.result _ (c.judge-bad.ensures l a r n.tale n.said (newly-hearing _ l a _ _ _ _ n) (λ h. c.index_of-i.ensures ∙ newly-index _ l a _ _ _ _ n h) n.known.path) c.if-bad.false (c.path_after-p.ensures.0 l a r n.tale n.said (newly-hearing _ l a _ _ _ _ n) (newly-path _ l a _ _ _ _ n) (newly-here _ l a _ _ _ _ n) n.known.path))),
+      (onwards n (upright-on _ l a _ _ _ _ n c.judge-bad.result _ (c.judge-bad.ensures l a r n.tale n.said (newly-hearing _ l a _ _ _ _ n) (λ h. c.index_of-i.ensures ∙ newly-index _ l a _ _ _ _ n h) n.known.path) (sym c.is_some.ensures ∙ c.if-is_some.false) (c.path_after-p.ensures.0 l a r n.tale n.said (newly-hearing _ l a _ _ _ _ n) (newly-path _ l a _ _ _ _ n) (newly-here _ l a _ _ _ _ n) n.known.path))),
 )

@@ -1,5 +1,5 @@
 -- `names::in_text::find` meets its contract. The invariant: as many of the sort as are counted have been told, and none of them is called so.
-use Rattle.names.proofs.GoingUp.{small-nowhere, small_at}
+use Rattle.names.proofs.GoingUp.{small-nowhere, small_at, none-is, some-is}
 use mathlib.Core.Path.{refl, ap, sym, ◌∙◌}
 use native.Mathlib.Omega.{arith}
 use Rattle.names.specs.Seek.{seek}
@@ -21,13 +21,13 @@ step-w-requires c = c.loop-lists.invariant.0
 
 pub returns-then-role-eq16 : goal.returns-then-role-eq16
 unfolding seek
-returns-then-role-eq16 c = (λ l a k. c.found_nowhere.ensures ∙ ap found_of (sym (all_told _ _ _ _ _ _ c.step-w.ensures l a k c.if-role-eq16.true (c.loop-lists.invariant.2 l a k)).1.1), small-nowhere c.found_nowhere.ensures)
+returns-then-role-eq16 c = (λ l a k. none-is ∙ ap found_of (sym (all_told _ _ _ _ _ _ c.step-w.ensures l a k c.if-role-eq16.true (c.loop-lists.invariant.2 l a k)).1.1), small-nowhere none-is)
 
 pub is_called-requires : goal.is_called-requires
 is_called-requires c = (c.step-w.ensures.ordered, c.step-w.ensures.within)
 
 pub returns-then-is_called : goal.returns-then-is_called
-returns-then-is_called c = (λ l a k. c.found_at.ensures ∙ ap found_of (sym (hit _ _ _ _ c.requires (newly _ _ _ _ _ _ c.step-w.ensures l a k c.if-role-eq16.false (c.loop-lists.invariant.2 l a k)) (sym c.sort_of.ensures ∙ c.if-sort_of-sort.true) (sym c.is_called.ensures ∙ c.if-is_called.true))), small_at _ c.found_at.ensures (omega (arith, further c.step-w.ensures c.if-role-eq16.false, c.step-w.ensures.bounded.place, c.loop-lists.invariant.1)))
+returns-then-is_called c = (λ l a k. some-is _ ∙ ap found_of (sym (hit _ _ _ _ c.requires (newly _ _ _ _ _ _ c.step-w.ensures l a k c.if-role-eq16.false (c.loop-lists.invariant.2 l a k)) (sym c.sort_of.ensures ∙ c.if-sort_of-sort.true) (sym c.is_called.ensures ∙ c.if-is_called.true))), small_at _ (some-is _) (omega (arith, further c.step-w.ensures c.if-role-eq16.false, c.step-w.ensures.bounded.place, c.loop-lists.invariant.1)))
 
 pub overflow_add-count : goal.overflow_add-count
 overflow_add-count c = omega (arith, further c.step-w.ensures c.if-role-eq16.false, c.step-w.ensures.bounded.place, c.loop-lists.invariant.1)

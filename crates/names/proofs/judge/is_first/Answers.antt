@@ -1,9 +1,10 @@
 -- `names::judge::is_first` meets its contract: the first is this one.
+use mathlib.Core.Path.{sym, ◌∙◌}
 use Rattle.names.proofs.Paths.{first-is, first-none}
 use Rattle.names.proofs.judge.is_first.Goals as goal
 
-pub returns-then-f : goal.returns-then-f
-returns-then-f c = λ l a r. first-is _ _ _ (c.find-f.ensures.0 l a r) c.if-f.true
+pub returns-in-Some : goal.returns-in-Some
+returns-in-Some c = λ l a r. first-is _ _ _ (sym c.in-Some.is ∙ c.find.ensures.0 l a r)
 
-pub returns : goal.returns
-returns c = λ l a r. first-none _ _ _ (c.find-f.ensures.0 l a r) c.if-f.false
+pub returns-in-None : goal.returns-in-None
+returns-in-None c = λ l a r. first-none _ _ (sym c.in-None.is ∙ c.find.ensures.0 l a r)

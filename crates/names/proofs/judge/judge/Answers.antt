@@ -1,4 +1,5 @@
 -- `names::judge::judge` meets its contract: each role by its mentions.
+use Rattle.names.proofs.GoingUp.{none-is}
 use mathlib.Core.Path.{ap, sym, ◌∙◌, subst}
 use mathlib.Core.List.{[]}
 use native.Mathlib.Omega.{arith}
@@ -19,15 +20,15 @@ returns-then-role-lt4 c = λ l a r b x h i z. c.unless.ensures ∙ ap (λ t. fou
 
 pub returns-then-role-eq7 : goal.returns-then-role-eq7
 unfolding piece Judging.Judged
-returns-then-role-eq7 c = λ l a r b x h i z. c.unless-then-role-eq7.ensures ∙ ap (λ t. found_of (unless_of t c.args.w.from)) (answer-found _ _ (c.command_of-f.ensures l a r)) ∙ ap found_of (sym (J.judged-call _ l a _ b x h c.if-role-eq7.true))
+returns-then-role-eq7 c = λ l a r b x h i z. c.unless-then-role-eq7.ensures ∙ ap (λ t. found_of (unless_of t c.args.w.from)) (c.is_some.ensures ∙ answer-found _ _ (c.command_of-f.ensures l a r)) ∙ ap found_of (sym (J.judged-call _ l a _ b x h c.if-role-eq7.true))
 
 pub returns-then-role-eq8 : goal.returns-then-role-eq8
 unfolding piece Judging.Judged
-returns-then-role-eq8 c = λ l a r b x h i z. c.unless-then-role-eq8.ensures ∙ ap (λ t. found_of (unless_of t c.args.w.from)) (answer-found _ _ (rw c.here-n.ensures at (c.variable_of-f.ensures l a r))) ∙ ap found_of (sym (J.judged-assign _ l a _ b x h c.if-role-eq8.true))
+returns-then-role-eq8 c = λ l a r b x h i z. c.unless-then-role-eq8.ensures ∙ ap (λ t. found_of (unless_of t c.args.w.from)) (c.is_some-then-role-eq8.ensures ∙ answer-found _ _ (rw c.here-n.ensures at (c.variable_of-f.ensures l a r))) ∙ ap found_of (sym (J.judged-assign _ l a _ b x h c.if-role-eq8.true))
 
 pub returns-then-role-eq9 : goal.returns-then-role-eq9
 unfolding piece Judging.Judged
-returns-then-role-eq9 c = λ l a r b x h i z. c.unless-then-role-eq9.ensures ∙ ap (λ t. found_of (unless_of t c.args.w.from)) (answer-found _ _ (c.lookup_of-f.ensures l a r)) ∙ ap found_of (sym (J.judged-read _ l a _ b x h c.if-role-eq9.true))
+returns-then-role-eq9 c = λ l a r b x h i z. c.unless-then-role-eq9.ensures ∙ ap (λ t. found_of (unless_of t c.args.w.from)) (c.is_some-then-role-eq9.ensures ∙ answer-found _ _ (c.lookup_of-f.ensures l a r)) ∙ ap found_of (sym (J.judged-read _ l a _ b x h c.if-role-eq9.true))
 
 pub returns-then-role-eq12 : goal.returns-then-role-eq12
 unfolding Judging.Judged
@@ -43,4 +44,4 @@ returns-then-role-eq13 c = λ l a r b x h i z.
 
 pub returns : goal.returns
 unfolding Judging.Judged
-returns c = λ l a r b x h i z. c.found_nowhere.ensures ∙ ap found_of (sym (J.judged-none _ l a _ b x h c.if-role-lt4.false c.if-role-eq7.false c.if-role-eq8.false c.if-role-eq9.false c.if-role-eq12.false c.if-role-eq13.false))
+returns c = λ l a r b x h i z. none-is ∙ ap found_of (sym (J.judged-none _ l a _ b x h c.if-role-lt4.false c.if-role-eq7.false c.if-role-eq8.false c.if-role-eq9.false c.if-role-eq12.false c.if-role-eq13.false))

@@ -1,4 +1,5 @@
 -- `names::judge::settle` meets its contract: a held name is looked for as a variable.
+use Rattle.names.proofs.GoingUp.{none-is}
 use mathlib.Core.Path.{ap, sym, ◌∙◌}
 use Rattle.notation.specs.Hearing.{draft_of}
 use Rattle.recognise.specs.Hears.{piece}
@@ -9,8 +10,8 @@ use Rattle.names.proofs.Judgements.{answer-found}
 use Rattle.names.proofs.judge.settle.Goals as goal
 
 pub returns-then-p-eq0 : goal.returns-then-p-eq0
-returns-then-p-eq0 c = λ l a r ts z. c.found_nowhere.ensures ∙ ap found_of (sym (settle-none _ (draft_of l) _ _ c.if-p-eq0.true ts z))
+returns-then-p-eq0 c = λ l a r ts z. none-is ∙ ap found_of (sym (settle-none _ (draft_of l) _ _ c.if-p-eq0.true ts z))
 
 pub returns : goal.returns
 unfolding piece
-returns c = λ l a r ts z. c.unless.ensures ∙ ap (λ t. found_of (unless_of t c.args.p.from)) (answer-found _ _ (c.variable_of-f.ensures l a r)) ∙ ap found_of (sym (settle-one _ (draft_of l) _ _ c.if-p-eq0.false ts z))
+returns c = λ l a r ts z. c.unless.ensures ∙ ap (λ t. found_of (unless_of t c.args.p.from)) (c.is_some.ensures ∙ answer-found _ _ (c.variable_of-f.ensures l a r)) ∙ ap found_of (sym (settle-one _ (draft_of l) _ _ c.if-p-eq0.false ts z))

@@ -1,5 +1,5 @@
 -- `names::resolve::node_at` meets its contract: the node's name is compared where it stands in the text.
-use Rattle.names.proofs.GoingUp.{small_at}
+use Rattle.names.proofs.GoingUp.{small_at, some-is}
 use Rattle.grammar.specs.Leads.{same}
 use mathlib.Core.Path.{ap, sym, ◌∙◌}
 use Rattle.names.specs.Answers.{found_of}
@@ -9,7 +9,7 @@ use Rattle.names.proofs.resolve.node_at.Goals as goal
 
 pub returns-then-same : goal.returns-then-same
 unfolding piece
-returns-then-same c = (λ l a r. c.found_at.ensures ∙ ap found_of (sym (at_here _ l a _ _ (ap (λ y. same y c.args.x.now) (sym (c.node-e.ensures.0 l a r).name) ∙ sym c.same.ensures ∙ c.if-same.true))), small_at _ c.found_at.ensures c.requires)
+returns-then-same c = (λ l a r. some-is _ ∙ ap found_of (sym (at_here _ l a _ _ (ap (λ y. same y c.args.x.now) (sym (c.node-e.ensures.0 l a r).name) ∙ sym c.same.ensures ∙ c.if-same.true))), small_at _ (some-is _) c.requires)
 
 pub returns : goal.returns
 unfolding piece

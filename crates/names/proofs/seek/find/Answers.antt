@@ -1,5 +1,5 @@
 -- `names::seek::find` meets its contract: where the tables are whole, the rows of the sort are its declarations.
-use Rattle.names.proofs.GoingUp.{small-nowhere}
+use Rattle.names.proofs.GoingUp.{small-nowhere, none-is}
 use native.Mathlib.Omega.{arith}
 use mathlib.Core.Path.{ap, ◌∙◌}
 use Rattle.names.specs.Answers.{found_of}
@@ -7,7 +7,7 @@ use Rattle.names.proofs.Quick.{quick-find, quick-fair, quick-room, sort-lies}
 use Rattle.names.proofs.seek.find.Goals as goal
 
 pub returns-then-count-room_of : goal.returns-then-count-room_of
-returns-then-count-room_of c = (λ l a r. absurd (omega (arith, quick-room _ _ _ _ _ _ c.if-told.true r c.args.sort c.requires, c.count_of-count.ensures, c.room_of.ensures, c.if-count-room_of.true)), small-nowhere c.found_nowhere.ensures)
+returns-then-count-room_of c = (λ l a r. absurd (omega (arith, quick-room _ _ _ _ _ _ c.if-told.true r c.args.sort c.requires, c.count_of-count.ensures, c.room_of.ensures, c.if-count-room_of.true)), small-nowhere none-is)
 
 pub find-requires : goal.find-requires
 find-requires c = omega (arith, sort-lies c.args.sort, c.base_of-base.ensures, c.count_of-count.ensures, c.room_of.ensures, c.if-count-room_of.false)
