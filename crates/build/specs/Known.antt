@@ -11,6 +11,7 @@ use Rattle.recognise.specs.declared.Cursor.{Cursor}
 use Rattle.recognise.specs.Hears.{piece}
 use Rattle.names.specs.declared.table.Told.{Told}
 use Rattle.std.specs.Prelude.{Option, unwrap_or}
+use Rattle.build.specs.declared.known.Source.{Source}
 use Rattle.names.specs.Answers.{Accepted, tale_said, found_of}
 use Rattle.names.specs.Tables.{Ready}
 
@@ -24,6 +25,9 @@ pub record Tables : Type 0 where
 
 abbrev pub tables : List ℕ → List ℕ → List ℕ → List ℕ → Told → Tables
 tables a b c d t = record { from = a; to = b; owner = c; kind = d; told = t }
+
+abbrev pub tables_of : Source → Tables
+tables_of s = tables s.names.from.now s.names.to.now s.names.owner.now s.kind.now s.names.told
 
 pub record Known (u : List ℕ) (d : Draft) (t : Tables) : Type 0 where
   pub said : List (Said Saying)

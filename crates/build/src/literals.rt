@@ -2,6 +2,7 @@
 ghost use Rattle.build.specs.Literals.{OfLeaf, WordAt, Adds, known_of, kind_of};
 
 use super::entries::emit;
+use super::known::Source;
 use recognise::Cursor;
 use words::{number_of, real_bits, signed, signed_bits};
 
@@ -55,17 +56,17 @@ pub fn word(text: &[u8], says: u8, from: usize, to: usize) -> u64
 }
 
 // The entry of a constant.
-pub fn literal(text: &[u8], image: &mut [u8; 41108], base: usize, at: Cursor, n: usize) -> usize
-    ensures { Adds text.now base n at image.old result image.new }
+pub fn literal<'a>(source: Source<'a>, image: &mut [u8; 41108], at: Cursor, n: usize) -> usize
+    ensures { Adds source.entry.names.text.now source.entry.base n at image.old result image.new }
 {
     emit(
         image,
-        base,
+        source.base,
         n,
         0,
         kind(at.says),
         0,
         known(at.says),
-        word(text, at.says, at.from, at.to),
+        word(source.names.text, at.says, at.from, at.to),
     )
 }

@@ -3,7 +3,9 @@ ghost use Rattle.std.specs.Prelude.{◌≡◌, length};
 ghost use Rattle.build.specs.Pendings.{Weighs, Pushed, Raised, Lowered, Keeps, IsPrefix, IsHeld, EndsOne, EndsAt, Prefixes, Unwinds, Follows};
 
 use super::entries::{emit, end_operator, last, strength};
+use super::known::Source;
 use super::steps::next;
+use names::Tables;
 use recognise::Cursor;
 
 // Where a reader stands, how many operators are kept, and how many entries there are.
@@ -104,16 +106,15 @@ fn keep(pending: &mut [usize; 6147], top: usize, says: u8) -> usize
 
 // Past the parentheses and NOTs before an operand, at most `left`.
 pub fn prefixes<'a>(
-    text: &'a [u8],
-    owner: &'a [usize; 10525],
+    names: Tables<'a>,
     pending: &mut [usize; 6147],
     top: usize,
     c: Cursor,
     left: usize,
 ) -> Stand
-    ensures { Prefixes text.now owner.now left top c pending.old result.at result.top pending.new }
+    ensures { Prefixes names.entry.text.now names.entry.owner.now left top c pending.old result.at result.top pending.new }
 {
-    let mut at = next(text, owner, c);
+    let mut at = next(names, c);
     let mut up = top;
     let mut turns: usize = 0;
     while turns < left {
@@ -126,7 +127,7 @@ pub fn prefixes<'a>(
             };
         }
         up = keep(pending, up, says);
-        at = next(text, owner, at);
+        at = next(names, at);
         turns += 1;
     }
     Stand {
@@ -192,22 +193,20 @@ fn unwind(
 
 // After an operand: what is said next ends the operators that it ends, and parentheses close, at most `left`.
 pub fn follow<'a>(
-    text: &'a [u8],
-    owner: &'a [usize; 10525],
+    source: Source<'a>,
     image: &mut [u8; 41108],
-    base: usize,
     pending: &mut [usize; 6147],
     s: Stand,
     left: usize,
 ) -> Stand
-    ensures { Follows text.now owner.now base left s.top s.at s.entries pending.old image.old result.at result.top result.entries pending.new image.new }
+    ensures { Follows source.entry.names.text.now source.entry.names.owner.now source.entry.base left s.top s.at s.entries pending.old image.old result.at result.top result.entries pending.new image.new }
 {
     let mut at = s.at;
     let mut top = s.top;
     let mut n = s.entries;
     let mut turns: usize = 0;
     while turns < left {
-        let u = unwind(image, base, pending, top, n, strength(at.says));
+        let u = unwind(image, source.base, pending, top, n, strength(at.says));
         top = u.top;
         n = u.entries;
         if at.says != 92 {
@@ -218,7 +217,7 @@ pub fn follow<'a>(
             };
         }
         lower(pending, top);
-        at = next(text, owner, at);
+        at = next(source.names, at);
         turns += 1;
     }
     Stand {

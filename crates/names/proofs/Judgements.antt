@@ -17,7 +17,7 @@ use Rattle.notation.specs.Hearing.{◌▸◌, draft_of}
 use Rattle.notation.specs.Names.{command_of, lookup_of, variable_of, is_at, is_found, in_order, bad_mention}
 use Rattle.recognise.specs.Hears.{piece}
 use Rattle.names.specs.declared.walk.Walk.{Walk}
-use Rattle.std.specs.Prelude.{Option, unwrap_or, is_some, Some, None}
+use Rattle.std.specs.Prelude.{Option, is_some}
 use Rattle.names.specs.Roles.{Role, role_of, role_number, detail_of}
 use Rattle.names.specs.Tale.{Declared, Tale, list_of, here_in, parts, settling, tell, tell_of}
 use Rattle.names.specs.Seek.{seek, nobody}

@@ -16,7 +16,7 @@ use Rattle.notation.specs.Draft.{Draft}
 use Rattle.notation.specs.Hearing.{◌▸◌, draft_of}
 use Rattle.notation.specs.Names.{bad_mention, bad_name}
 use Rattle.names.specs.declared.walk.Walk.{Walk}
-use Rattle.std.specs.Prelude.{Option, unwrap_or, is_some, Some, None}
+use Rattle.std.specs.Prelude.{Option, is_some}
 use Rattle.names.specs.declared.judge.Path.{Path}
 use Rattle.names.specs.Roles.{Role, role_of, role_number, detail_of, other, number, command, lookup, variable, named, unnamed, opens, shuts, call, assign, read, mention, descend, ask, settle}
 use Rattle.names.specs.Tale as Tale

@@ -18,6 +18,16 @@ pub struct Told {
     pub nodes: usize,
 }
 
+// A text and the tables of its declarations: row by row where the name begins, where it ends, and its owner. Behind the owners lies the text's tape.
+#[derive(Clone, Copy)]
+pub struct Tables<'a> {
+    pub text: &'a [u8],
+    pub from: &'a [usize; 704],
+    pub to: &'a [usize; 704],
+    pub owner: &'a [usize; 10525],
+    pub told: Told,
+}
+
 pub fn base_of(sort: u8) -> usize
     ensures { result ≡ base_of sort }
 {
@@ -63,70 +73,57 @@ pub fn count_of(told: Told, sort: u8) -> usize
     told.nodes
 }
 
-// Among `count` rows from place `base` on the first of the owner m and the name x.
-pub fn find<'a>(
-    text: &'a [u8],
-    from: &'a [usize; 704],
-    to: &'a [usize; 704],
-    owner: &'a [usize; 10525],
-    base: usize,
-    count: usize,
-    m: usize,
-    x: &'a [u8],
-) -> Option<usize>
-    requires { base + count ≤ 704 }
-    ensures { (Fair text.now from.now to.now base count → result ≡ found_of (find_from 0 (is_called m x.now) (rows text.now from.now to.now owner.now base count))) × (unwrap_or result 0 < 18446744073709551615) }
-{
-    let mut i = 0;
-    while i < count {
-        let j = base + i;
-        let a = from[j];
-        let e = to[j];
-        let o = owner[j];
-        if a > e {
-            return None;
+impl<'a> Tables<'a> {
+    // Among `count` rows from place `base` on the first of the owner m and the name x.
+    pub fn first_row(self, base: usize, count: usize, m: usize, x: &[u8]) -> Option<usize>
+        requires { base + count ≤ 704 }
+        ensures { (Fair self.entry.text.now self.entry.from.now self.entry.to.now base count → result ≡ found_of (find_from 0 (is_called m x.now) (rows self.entry.text.now self.entry.from.now self.entry.to.now self.entry.owner.now base count))) × (unwrap_or result 0 < 18446744073709551615) }
+    {
+        let mut i = 0;
+        while i < count {
+            let j = base + i;
+            let a = self.from[j];
+            let e = self.to[j];
+            let o = self.owner[j];
+            if a > e {
+                return None;
+            }
+            if e > self.text.len() {
+                return None;
+            }
+            if is_called(self.text, a, e, o, m, x) {
+                return Some(i);
+            }
+            i += 1;
         }
-        if e > text.len() {
-            return None;
-        }
-        if is_called(text, a, e, o, m, x) {
-            return Some(i);
-        }
-        i += 1;
+        None
     }
-    None
-}
 
-// The row at place j, where its name lies in the text.
-pub fn row<'a>(
-    text: &'a [u8],
-    from: &'a [usize; 704],
-    to: &'a [usize; 704],
-    owner: &'a [usize; 10525],
-    j: usize,
-) -> NodeFound
-    requires { j < 704 }
-    ensures { (Fair text.now from.now to.now j 1 → NodeIs text.now (row_at text.now from.now to.now owner.now j) result) × Lies text.now result }
-{
-    let a = from[j];
-    let e = to[j];
-    if a > e {
-        return NodeFound {
-            from: 0,
-            to: 0,
-            owner: 0,
-        };
-    }
-    if e > text.len() {
-        return NodeFound {
-            from: 0,
-            to: 0,
-            owner: 0,
-        };
-    }
-    NodeFound {
-        from: a,
-        to: e,
-        owner: owner[j],
+    // The row at place j, where its name lies in the text.
+    pub fn row(self, j: usize) -> NodeFound
+        requires { j < 704 }
+        ensures { (Fair self.entry.text.now self.entry.from.now self.entry.to.now j 1 → NodeIs self.entry.text.now (row_at self.entry.text.now self.entry.from.now self.entry.to.now self.entry.owner.now j) result) × Lies self.entry.text.now result }
+    {
+        let a = self.from[j];
+        let e = self.to[j];
+        if a > e {
+            return NodeFound {
+                from: 0,
+                to: 0,
+                owner: 0,
+            };
+        }
+        if e > self.text.len() {
+            return NodeFound {
+                from: 0,
+                to: 0,
+                owner: 0,
+            };
+        }
+        NodeFound {
+            from: a,
+            to: e,
+            owner: self.owner[j],
+        }
     }
 }

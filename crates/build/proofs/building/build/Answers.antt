@@ -27,4 +27,4 @@ returns-then-lookups-gt64 c l a e filled w room = let f = limited _ w in absurd 
 
 -- src/building.rt:66:1
 pub returns : goal.returns
-returns c = built-all _ _ _ _ _ _ _ _ _ _ _ _ _ c.counted.ensures refl refl refl c.put_header.ensures c.sections.ensures
+returns c = built-all _ _ _ _ _ _ _ _ _ _ _ _ _ c.counted-told.ensures refl refl refl c.put_header.ensures c.sections.ensures

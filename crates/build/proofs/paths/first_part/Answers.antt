@@ -8,8 +8,8 @@ pub returns-then-e-a : goal.returns-then-e-a
 returns-then-e-a c = (λ d k n l. absurd (omega (arith, l.0)), omega arith)
 
 -- src/paths.rt:40:9
-pub returns-then-text-e : goal.returns-then-text-e
-returns-then-text-e c = (λ d k n l. absurd (omega (arith, l.1)), omega arith)
+pub returns-then-source-e : goal.returns-then-source-e
+returns-then-source-e c = (λ d k n l. absurd (omega (arith, l.1)), omega arith)
 
 -- src/paths.rt:46:9
 pub returns-then-n-ge65535 : goal.returns-then-n-ge65535

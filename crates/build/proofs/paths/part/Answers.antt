@@ -7,8 +7,8 @@ use Rattle.build.proofs.paths.part.Goals as goal
 pub returns-then-e-a : goal.returns-then-e-a
 returns-then-e-a c = (λ d f k l e. absurd (omega (arith, l.0)), omega arith)
 
-pub returns-then-text-e : goal.returns-then-text-e
-returns-then-text-e c = (λ d f k l e. absurd (omega (arith, l.1)), omega arith)
+pub returns-then-source-e : goal.returns-then-source-e
+returns-then-source-e c = (λ d f k l e. absurd (omega (arith, l.1)), omega arith)
 
 pub returns-in_err-above : goal.returns-in_err-above
 returns-in_err-above c = rw c.from_residual.ensures (λ d f k l e. lost d f _ (sym c.in_err-above.was ∙ e), omega arith)
