@@ -48,15 +48,10 @@ pub fn expression<'a>(
 fn rank(text: &[u8], at: Cursor) -> usize
     ensures { Ranks text.now at result }
 {
-    let from = at.from;
-    let to = at.to;
-    if to < from {
-        return 0;
+    match text.get(at.from..at.to) {
+        Some(digits) => number_of(digits) as usize,
+        None => 0,
     }
-    if text.len() < to {
-        return 0;
-    }
-    number_of(&text[from..to]) as usize
 }
 
 // The initial value that it has heard: the constants' sayings have numbers higher by 8.
@@ -145,14 +140,12 @@ pub fn attributes<'a>(
         variables: c.variables,
         priority: 0,
     };
-    let mut turns: usize = 0;
-    while turns < left {
+    for _ in 0..left {
         let at = a.at;
         if at.says < 12 {
             return a;
         }
         a = attribute(source, image, pending, given, node, a);
-        turns += 1;
     }
     a
 }

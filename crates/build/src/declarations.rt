@@ -11,16 +11,10 @@ use words::number_of;
 fn number(text: &[u8], kind: &mut [usize; 704], i: usize, at: Cursor)
     ensures { Numbers text.now i at kind.old kind.new }
 {
-    let from = at.from;
-    let to = at.to;
-    if to < from {
-        return;
-    }
-    if text.len() < to {
-        return;
-    }
-    if i < 256 {
-        kind[i] = number_of(&text[from..to]) as usize;
+    if let Some(digits) = text.get(at.from..at.to) {
+        if i < 256 {
+            kind[i] = number_of(digits) as usize;
+        }
     }
 }
 
@@ -48,8 +42,7 @@ pub(crate) fn declarations<'a>(
     let mut at = next(names, recognise::begin(names.owner));
     let mut commands: usize = 0;
     let mut lookups: usize = 0;
-    let mut turns: usize = 0;
-    while turns < names.text.len() {
+    for _ in 0..names.text.len() {
         let says = at.says;
         if says > 5 {
             return at;
@@ -63,7 +56,6 @@ pub(crate) fn declarations<'a>(
             commands += 1;
         }
         at = next(names, at);
-        turns += 1;
     }
     at
 }

@@ -27,8 +27,7 @@ pub fn boolean<'a>(
         top: 0,
         entries: count,
     };
-    let mut turns: usize = 0;
-    while turns < left {
+    for _ in 0..left {
         let o = prefixes(source.names, pending, s.top, s.at, left);
         let first = o.at;
         let p = numeric(source, image, node, first, s.entries, left);
@@ -52,7 +51,6 @@ pub fn boolean<'a>(
             top: top,
             entries: f.entries,
         };
-        turns += 1;
     }
     let at = s.at;
     Progress {

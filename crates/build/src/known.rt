@@ -40,15 +40,10 @@ fn standing(kind: &[usize; 704], first: usize, count: usize, i: usize) -> usize
 pub fn variable<'a>(source: Source<'a>, n: usize, at: Cursor) -> Meaning
     ensures { MeansVariable source.entry.names.text.now (tables_of source.entry) n at result.number result.kind }
 {
-    let a = at.from;
-    let e = at.to;
-    if e < a {
+    let Some(name) = source.names.text.get(at.from..at.to) else {
         return Meaning { number: 0, kind: 0 };
-    }
-    if source.names.text.len() < e {
-        return Meaning { number: 0, kind: 0 };
-    }
-    let f = source.names.variable_of(n, &source.names.text[a..e]);
+    };
+    let f = source.names.variable_of(n, name);
     let number = f.unwrap_or(0);
     let kind = standing(source.kind, 320, source.names.told.variables, number);
     Meaning { number, kind }
@@ -58,15 +53,10 @@ pub fn variable<'a>(source: Source<'a>, n: usize, at: Cursor) -> Meaning
 pub fn lookup<'a>(source: Source<'a>, at: Cursor) -> Meaning
     ensures { MeansLookup source.entry.names.text.now (tables_of source.entry) at result.number result.kind }
 {
-    let a = at.from;
-    let e = at.to;
-    if e < a {
+    let Some(name) = source.names.text.get(at.from..at.to) else {
         return Meaning { number: 0, kind: 0 };
-    }
-    if source.names.text.len() < e {
-        return Meaning { number: 0, kind: 0 };
-    }
-    let f = source.names.lookup_of(&source.names.text[a..e]);
+    };
+    let f = source.names.lookup_of(name);
     let number = f.unwrap_or(0);
     let kind = standing(source.kind, 256, source.names.told.lookups, number);
     Meaning { number, kind }
@@ -76,15 +66,10 @@ pub fn lookup<'a>(source: Source<'a>, at: Cursor) -> Meaning
 pub fn command<'a>(source: Source<'a>, at: Cursor) -> usize
     ensures { MeansCommand source.entry.names.text.now (tables_of source.entry) at result }
 {
-    let a = at.from;
-    let e = at.to;
-    if e < a {
+    let Some(name) = source.names.text.get(at.from..at.to) else {
         return 0;
-    }
-    if source.names.text.len() < e {
-        return 0;
-    }
-    let f = source.names.command_of(&source.names.text[a..e]);
+    };
+    let f = source.names.command_of(name);
     let i = f.unwrap_or(0);
     if i < 256 {
         return source.kind[i];

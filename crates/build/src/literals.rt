@@ -40,19 +40,16 @@ pub fn word(text: &[u8], says: u8, from: usize, to: usize) -> u64
     if says < 33 {
         return 0;
     }
-    if to < from {
+    let Some(token) = text.get(from..to) else {
         return 0;
-    }
-    if text.len() < to {
-        return 0;
-    }
+    };
     if says < 35 {
-        return signed(says == 34, number_of(&text[from..to]));
+        return signed(says == 34, number_of(token));
     }
     if says < 37 {
-        return real_bits(&text[from..to], says == 36);
+        return real_bits(token, says == 36);
     }
-    signed_bits(says == 38, number_of(&text[from..to]))
+    signed_bits(says == 38, number_of(token))
 }
 
 // The entry of a constant.

@@ -109,8 +109,7 @@ pub fn list<'a>(
     ensures { ReadsList source.entry.names.text.now (tables_of source.entry) source.entry.base source.entry.vbase above left c pending.old image.old result pending.new image.new }
 {
     let mut s = c;
-    let mut turns: usize = 0;
-    while turns < left {
+    for _ in 0..left {
         let at = next(source.names, s.at);
         let heard = Course {
             at: at,
@@ -122,7 +121,6 @@ pub fn list<'a>(
             return heard;
         }
         s = node(source, image, pending, above, heard, left - 1);
-        turns += 1;
     }
     s
 }

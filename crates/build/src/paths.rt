@@ -18,18 +18,11 @@ pub struct Question {
 fn first_part<'a>(source: Source<'a>, n: usize, at: Cursor) -> Option<usize>
     ensures { MeansFirst source.entry.names.text.now (tables_of source.entry) n at result }
 {
-    let a = at.from;
-    let e = at.to;
-    if e < a {
-        return None;
-    }
-    if source.names.text.len() < e {
-        return None;
-    }
+    let name = source.names.text.get(at.from..at.to)?;
     if n >= 65535 {
         return None;
     }
-    source.names.node_up(n, &source.names.text[a..e])
+    source.names.node_up(n, name)
 }
 
 // A later part, below what was found.
@@ -37,16 +30,9 @@ fn part<'a>(source: Source<'a>, m: Option<usize>, at: Cursor) -> Option<usize>
     requires { unwrap_or m 0 < 18446744073709551615 }
     ensures { MeansPart source.entry.names.text.now (tables_of source.entry) m at result }
 {
-    let a = at.from;
-    let e = at.to;
-    if e < a {
-        return m;
-    }
-    if source.names.text.len() < e {
-        return m;
-    }
+    let name = source.names.text.get(at.from..at.to)?;
     let above = m?;
-    source.names.child_of(above, &source.names.text[a..e])
+    source.names.child_of(above, name)
 }
 
 // Along the path that begins with the token at `at` to its question; the saying after that token has been heard at c.
@@ -55,8 +41,7 @@ pub fn walk<'a>(source: Source<'a>, node: usize, at: Cursor, c: Cursor, left: us
 {
     let mut found = first_part(source, node, at);
     let mut to_ask = c;
-    let mut turns: usize = 0;
-    while turns < left {
+    for _ in 0..left {
         if to_ask.says != 44 {
             return Question {
                 at: to_ask,
@@ -65,7 +50,6 @@ pub fn walk<'a>(source: Source<'a>, node: usize, at: Cursor, c: Cursor, left: us
         }
         found = part(source, found, to_ask);
         to_ask = next(source.names, to_ask);
-        turns += 1;
     }
     Question {
         at: to_ask,

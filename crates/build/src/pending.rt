@@ -116,8 +116,7 @@ pub fn prefixes<'a>(
 {
     let mut at = next(names, c);
     let mut up = top;
-    let mut turns: usize = 0;
-    while turns < left {
+    for _ in 0..left {
         let says = at.says;
         if !is_prefix(says) {
             return Stand {
@@ -128,7 +127,6 @@ pub fn prefixes<'a>(
         }
         up = keep(pending, up, says);
         at = next(names, at);
-        turns += 1;
     }
     Stand {
         at: at,
@@ -204,8 +202,7 @@ pub fn follow<'a>(
     let mut at = s.at;
     let mut top = s.top;
     let mut n = s.entries;
-    let mut turns: usize = 0;
-    while turns < left {
+    for _ in 0..left {
         let u = unwind(image, source.base, pending, top, n, strength(at.says));
         top = u.top;
         n = u.entries;
@@ -218,7 +215,6 @@ pub fn follow<'a>(
         }
         lower(pending, top);
         at = next(source.names, at);
-        turns += 1;
     }
     Stand {
         at: at,

@@ -19,12 +19,10 @@ pub fn little(image: &mut [u8; 41108], at: usize, k: usize, n: u64)
     requires { at + k ≤ 41108 }
     ensures { length image.old ≡ 41108 → image.new ≡ put image.old at (bytes k n) }
 {
-    let mut i: usize = 0;
     let mut m = n;
-    while i < k {
+    for i in 0..k {
         image[at + i] = (m % 256) as u8;
         m = m / 256;
-        i += 1;
     }
 }
 
@@ -64,10 +62,8 @@ fn words(image: &mut [u8; 41108], at: usize, ws: &[usize])
     requires { at + 2 * length ws.now ≤ 41108 }
     ensures { length image.old ≡ 41108 → image.new ≡ put image.old at (Assemble.words16 ws.now) }
 {
-    let mut i: usize = 0;
-    while i < ws.len() {
+    for i in 0..ws.len() {
         little(image, at + 2 * i, 2, ws[i] as u64);
-        i += 1;
     }
 }
 
@@ -82,8 +78,8 @@ pub fn put_node(
     what: usize,
     value: usize,
 )
-    requires fact_1 { at + 24 ≤ 41108 }
-    requires fact_2 { length given.now ≡ 7 }
+    requires room { at + 24 ≤ 41108 }
+    requires seven_given { length given.now ≡ 7 }
     ensures { length image.old ≡ 41108 → image.new ≡ put image.old at (Assemble.node parent form priority given.now what value) }
 {
     little(image, at, 2, parent as u64);
@@ -102,10 +98,10 @@ pub fn put_header(
     variables: usize,
     lookups: usize,
 )
-    requires fact_1 { nodes ≤ 256 }
-    requires fact_2 { entries ≤ 2048 }
-    requires fact_3 { variables ≤ 128 }
-    requires fact_4 { lookups ≤ 64 }
+    requires few_nodes { nodes ≤ 256 }
+    requires few_entries { entries ≤ 2048 }
+    requires few_variables { variables ≤ 128 }
+    requires few_lookups { lookups ≤ 64 }
     ensures { length image.old ≡ 41108 → image.new ≡ put image.old 0 (header nodes entries variables lookups) }
 {
     let a = 20 + 24 * nodes;

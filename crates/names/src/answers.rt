@@ -6,3 +6,10 @@ pub struct NodeFound {
     pub to: usize,
     pub owner: usize,
 }
+
+// A node beyond the last has no name and no owner.
+pub const NOBODY: NodeFound = NodeFound {
+    from: 0,
+    to: 0,
+    owner: 0,
+};

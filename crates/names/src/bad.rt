@@ -48,12 +48,9 @@ pub fn bad_name<'a>(tables: Tables<'a>) -> Option<usize>
     let mut commands: usize = 0;
     let mut lookups: usize = 0;
     let mut variables: usize = 0;
-    loop {
-        w = step(tables.text, tables.owner, &mut lists, w);
+    while let Some(next) = step(tables.text, tables.owner, &mut lists, w) {
+        w = next;
         let role = w.role;
-        if role == 16 {
-            return None;
-        }
         let i = index_of(role, commands, lookups, variables, w.nodes);
         let bad = tables.judge(w, i, p);
         if bad.is_some() {
@@ -64,4 +61,5 @@ pub fn bad_name<'a>(tables: Tables<'a>) -> Option<usize>
         lookups = counted(role, 1, lookups);
         variables = counted(role, 2, variables);
     }
+    None
 }

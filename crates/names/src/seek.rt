@@ -6,7 +6,7 @@ ghost use Rattle.names.specs.Seek.{seek, node_in};
 ghost use Rattle.names.specs.Answers.{Accepted, found_of, tale_said, NodeIs, Lies};
 ghost use Rattle.names.specs.Tables.{Prepared};
 
-use super::answers::NodeFound;
+use super::answers::{NOBODY, NodeFound};
 use super::in_text;
 use super::table::{Tables, base_of, count_of, room_of};
 
@@ -33,18 +33,10 @@ impl<'a> Tables<'a> {
     {
         if self.told.whole {
             if n >= self.told.nodes {
-                return NodeFound {
-                    from: 0,
-                    to: 0,
-                    owner: 0,
-                };
+                return NOBODY;
             }
             if n >= 256 {
-                return NodeFound {
-                    from: 0,
-                    to: 0,
-                    owner: 0,
-                };
+                return NOBODY;
             }
             return self.row(448 + n);
         }

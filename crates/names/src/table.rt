@@ -5,7 +5,7 @@ ghost use Rattle.names.specs.Seek.{is_called};
 ghost use Rattle.names.specs.Answers.{found_of, Lies, NodeIs};
 ghost use Rattle.names.specs.Tables.{base_of, room_of, count_of, row_at, rows, Fair};
 
-use super::answers::NodeFound;
+use super::answers::{NOBODY, NodeFound};
 use super::in_text::is_called;
 
 // How many rows each sort has; `whole` where the tables have every declaration of the text.
@@ -79,22 +79,12 @@ impl<'a> Tables<'a> {
         requires { base + count ≤ 704 }
         ensures { (Fair self.entry.text.now self.entry.from.now self.entry.to.now base count → result ≡ found_of (find_from 0 (is_called m x.now) (rows self.entry.text.now self.entry.from.now self.entry.to.now self.entry.owner.now base count))) × (unwrap_or result 0 < 18446744073709551615) }
     {
-        let mut i = 0;
-        while i < count {
+        for i in 0..count {
             let j = base + i;
-            let a = self.from[j];
-            let e = self.to[j];
-            let o = self.owner[j];
-            if a > e {
-                return None;
-            }
-            if e > self.text.len() {
-                return None;
-            }
-            if is_called(self.text, a, e, o, m, x) {
+            let name = self.text.get(self.from[j]..self.to[j])?;
+            if is_called(name, self.owner[j], m, x) {
                 return Some(i);
             }
-            i += 1;
         }
         None
     }
@@ -104,26 +94,15 @@ impl<'a> Tables<'a> {
         requires { j < 704 }
         ensures { (Fair self.entry.text.now self.entry.from.now self.entry.to.now j 1 → NodeIs self.entry.text.now (row_at self.entry.text.now self.entry.from.now self.entry.to.now self.entry.owner.now j) result) × Lies self.entry.text.now result }
     {
-        let a = self.from[j];
-        let e = self.to[j];
-        if a > e {
-            return NodeFound {
-                from: 0,
-                to: 0,
-                owner: 0,
-            };
-        }
-        if e > self.text.len() {
-            return NodeFound {
-                from: 0,
-                to: 0,
-                owner: 0,
-            };
-        }
-        NodeFound {
-            from: a,
-            to: e,
-            owner: self.owner[j],
+        let from = self.from[j];
+        let to = self.to[j];
+        match self.text.get(from..to) {
+            Some(_) => NodeFound {
+                from,
+                to,
+                owner: self.owner[j],
+            },
+            None => NOBODY,
         }
     }
 }

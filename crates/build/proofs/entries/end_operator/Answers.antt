@@ -8,11 +8,9 @@ use Rattle.build.specs.Operators.{first_of}
 use Rattle.build.proofs.OperatorLaws.{ends-one, ends-two}
 use Rattle.build.proofs.entries.end_operator.Goals as goal
 
--- src/entries.rt:80:9
 at_least : (es fs : List Entry) → length (es ++ fs) ≤ 2048 → length es ≤ 2048
 at_least es fs h = omega (arith, length-append es fs)
 
--- src/entries.rt:77:1
 pub returns-then-says-eq83 : goal.returns-then-says-eq83
 returns-then-says-eq83 c s es o room low t h few e = let x = c.args in
     let g = c.emit-m in
@@ -21,7 +19,6 @@ returns-then-says-eq83 c s es o room low t h few e = let x = c.args in
     (c.first.ensures o e ∙ ap (λ z. first_of o x.a z) c.last-b.ensures) (c.first-2.ensures o e ∙ ap (λ z. first_of o z x.a) c.last-b.ensures)
     g.ensures _ _ c.emit.ensures c.if-says-eq83.true
 
--- src/entries.rt:77:1
 pub returns-else-says-eq83 : goal.returns-else-says-eq83
 returns-else-says-eq83 c s es o room low t h few e = let x = c.args in
     let g = c.emit-m in

@@ -16,10 +16,7 @@ decreases-list l = l.left
 abbrev pub decreases-node : goal.decreases-node
 decreases-node l = l.left
 
-abbrev pub invariant-list-loop-turns : goal.invariant-list-loop-turns
-invariant-list-loop-turns l =
+abbrev pub invariant-list-loop : goal.invariant-list-loop
+invariant-list-loop l =
     (whole d : Draft) (parent size : ℕ) (k : Sayings) → length l.initial.pending ≡ places → Site l.source.names.text.now whole (tables_of l.source) l.source.base l.source.vbase → size ≤ l.left → l.left ≤ length l.source.names.text.now → Listing l.source.names.text.now whole d l.above parent size k l.initial.s l.initial.image
-    → (e : Draft) × Listing l.source.names.text.now whole e l.above parent (size - l.turns) k l.s l.image × Keeps d.nodes e.nodes × (length l.pending ≡ places)
-
-abbrev pub decreases-list-loop-turns : goal.decreases-list-loop-turns
-decreases-list-loop-turns l = l.left - l.turns
+    → (e : Draft) × Listing l.source.names.text.now whole e l.above parent (size - l.counter) k l.s l.image × Keeps d.nodes e.nodes × (length l.pending ≡ places)

@@ -12,10 +12,7 @@ use Rattle.build.specs.Standing.{Scene}
 use Rattle.build.specs.Named.{Held}
 use Rattle.build.proofs.paths.walk.Given as goal
 
-abbrev pub invariant-loop-turns : goal.invariant-loop-turns
-invariant-loop-turns l = (unwrap_or l.found 0 < 18446744073709551615) × ((s : Scene) (n : ℕ) (ps : List Pending) (size : ℕ) (es : List Entry) (ms : List Mentioned) (h : Placed) → Known l.source.names.text.now s.whole (tables_of l.source)
+abbrev pub invariant-loop : goal.invariant-loop
+invariant-loop l = (unwrap_or l.found 0 < 18446744073709551615) × ((s : Scene) (n : ℕ) (ps : List Pending) (size : ℕ) (es : List Entry) (ms : List Mentioned) (h : Placed) → Known l.source.names.text.now s.whole (tables_of l.source)
     → l.initial.found ≡ found_of (node_of s.whole l.node (all_bytes (h ∷ []))) → Held l.source.names.text.now s n ps size l.initial.to_ask es ms (h ∷ [])
-    → (hs : List Placed) × Held l.source.names.text.now s n ps (size - l.turns) l.to_ask es ms (h ∷ hs) × (l.found ≡ found_of (node_of s.whole l.node (all_bytes (h ∷ hs)))))
-
-abbrev pub decreases-loop-turns : goal.decreases-loop-turns
-decreases-loop-turns l = l.left - l.turns
+    → (hs : List Placed) × Held l.source.names.text.now s n ps (size - l.counter) l.to_ask es ms (h ∷ hs) × (l.found ≡ found_of (node_of s.whole l.node (all_bytes (h ∷ hs)))))

@@ -5,7 +5,6 @@ use Rattle.plexil.specs.Assemble.{bytes, words16, expr}
 use Rattle.build.proofs.Puts.{put_next}
 use Rattle.build.proofs.write.put_entry.Goals as goal
 
--- src/write.rt:34:1
 pub returns : goal.returns
 unfolding bytes words16 expr
 returns c e = let x = c.args in

@@ -7,7 +7,6 @@ use Rattle.plexil.specs.Assemble.{bytes, words16}
 use Rattle.build.proofs.Puts.{put_next, words_size, node-record}
 use Rattle.build.proofs.write.put_node.Goals as goal
 
--- src/write.rt:78:1
 pub returns : goal.returns
 unfolding bytes
 returns c e = let x = c.args in
