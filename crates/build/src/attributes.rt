@@ -87,25 +87,22 @@ fn attribute<'a>(
         return Described {
             at: next(source.names, e.at),
             entries: e.entries,
-            variables: a.variables,
-            priority: a.priority,
+            ..a
         };
     }
     let then = next(source.names, at);
     if says == 19 {
         return Described {
             at: then,
-            entries: a.entries,
-            variables: a.variables,
             priority: rank(source.names.text, at),
+            ..a
         };
     }
     if says < 23 {
         return Described {
             at: then,
-            entries: a.entries,
             variables: add_variable(image, source.vbase, a.variables, says - 20, node),
-            priority: a.priority,
+            ..a
         };
     }
     set_initial(
@@ -114,12 +111,7 @@ fn attribute<'a>(
         a.variables,
         initial(source.names.text, at),
     );
-    Described {
-        at: then,
-        entries: a.entries,
-        variables: a.variables,
-        priority: a.priority,
-    }
+    Described { at: then, ..a }
 }
 
 // The attributes of the node that has begun, up to what it is.

@@ -5,7 +5,7 @@ ghost use Rattle.build.specs.Building.{Builds, Makes, counted_told};
 use super::declarations::declarations;
 use super::known::Source;
 use super::nodes::{Course, node};
-use super::write::put_header;
+use super::write::{NOTHING, put_header};
 use names::{Tables, Told, fill_kinds};
 use recognise::{Cursor, Recognised};
 
@@ -42,7 +42,14 @@ fn sections<'a>(names: Tables<'a>, base: usize, vbase: usize, lbase: usize, imag
         base,
         vbase,
     };
-    node(source, image, &mut pending, 65535, start, names.text.len());
+    node(
+        source,
+        image,
+        &mut pending,
+        NOTHING,
+        start,
+        names.text.len(),
+    );
 }
 
 // The image, from the tables of the declarations and the counts.
@@ -65,7 +72,7 @@ pub fn build<'a>(names: Tables<'a>, seen: Recognised, image: &mut [u8; 41108])
     if lookups > 64 {
         return;
     }
-    put_header(image, nodes, entries, variables, lookups);
+    put_header(image, seen);
     let base = 20 + 24 * nodes;
     let vbase = base + 16 * entries;
     let lbase = vbase + 16 * variables;

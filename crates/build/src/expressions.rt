@@ -41,20 +41,20 @@ pub fn boolean<'a>(
         let at = f.at;
         if at.says > 90 {
             return Progress {
-                at: at,
+                at,
                 entries: f.entries,
             };
         }
         let top = push(pending, f.top, at.says, last(f.entries));
         s = Stand {
-            at: at,
-            top: top,
+            at,
+            top,
             entries: f.entries,
         };
     }
     let at = s.at;
     Progress {
-        at: at,
+        at,
         entries: s.entries,
     }
 }

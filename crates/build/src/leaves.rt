@@ -3,11 +3,12 @@ ghost use Rattle.build.specs.Known.{tables_of};
 ghost use Rattle.build.specs.Steps.{Leaves};
 ghost use Rattle.build.specs.Named.{Asks, Variables, Lookups};
 
-use super::entries::emit;
+use super::entries::{NOT, emit};
 use super::known::{Source, lookup, variable};
 use super::literals::literal;
 use super::paths::{ask_code, ask_not, ask_op, walk};
 use super::steps::{Progress, next};
+use super::write::{BLANK, Entry};
 use recognise::Cursor;
 
 // A question about a node, whose name is the token at the cursor; what is said after it has been heard.
@@ -25,16 +26,14 @@ fn question<'a>(
     let q = walk(source, node, at, after, left);
     let ask = q.at;
     let says = ask.says;
-    let n = emit(
-        image,
-        source.base,
-        count,
-        ask_op(says),
-        0,
-        q.number,
-        ask_code(says),
-        0,
-    );
+    let asked = Entry {
+        op: ask_op(says),
+        kind: 0,
+        a: q.number,
+        b: ask_code(says),
+        word: 0,
+    };
+    let n = emit(image, source.base, count, asked);
     let end = next(source.names, ask);
     if ask_not(says) == 0 {
         return Progress {
@@ -42,7 +41,12 @@ fn question<'a>(
             entries: n,
         };
     }
-    let m = emit(image, source.base, n, 6, 0, count, 0, 0);
+    let not = Entry {
+        op: NOT,
+        a: count,
+        ..BLANK
+    };
+    let m = emit(image, source.base, n, not);
     Progress {
         at: end,
         entries: m,
@@ -60,16 +64,14 @@ fn variable_entry<'a>(
     ensures { Variables source.entry.names.text.now (tables_of source.entry) node source.entry.base at count image.old result image.new }
 {
     let v = variable(source, node, at);
-    emit(
-        image,
-        source.base,
-        count,
-        1,
-        (v.kind % 256) as u8,
-        v.number,
-        0,
-        0,
-    )
+    let e = Entry {
+        op: 1,
+        kind: (v.kind % 256) as u8,
+        a: v.number,
+        b: 0,
+        word: 0,
+    };
+    emit(image, source.base, count, e)
 }
 
 // The entry of a lookup.
@@ -77,16 +79,14 @@ fn lookup_entry<'a>(source: Source<'a>, image: &mut [u8; 41108], at: Cursor, cou
     ensures { Lookups source.entry.names.text.now (tables_of source.entry) source.entry.base at count image.old result image.new }
 {
     let v = lookup(source, at);
-    emit(
-        image,
-        source.base,
-        count,
-        2,
-        (v.kind % 256) as u8,
-        v.number,
-        0,
-        0,
-    )
+    let e = Entry {
+        op: 2,
+        kind: (v.kind % 256) as u8,
+        a: v.number,
+        b: 0,
+        word: 0,
+    };
+    emit(image, source.base, count, e)
 }
 
 // An operand, whose first saying has been heard.

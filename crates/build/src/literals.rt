@@ -3,6 +3,7 @@ ghost use Rattle.build.specs.Literals.{OfLeaf, WordAt, Adds, known_of, kind_of};
 
 use super::entries::emit;
 use super::known::Source;
+use super::write::Entry;
 use recognise::Cursor;
 use words::{number_of, real_bits, signed, signed_bits};
 
@@ -56,14 +57,12 @@ pub fn word(text: &[u8], says: u8, from: usize, to: usize) -> u64
 pub fn literal<'a>(source: Source<'a>, image: &mut [u8; 41108], at: Cursor, n: usize) -> usize
     ensures { Adds source.entry.names.text.now source.entry.base n at image.old result image.new }
 {
-    emit(
-        image,
-        source.base,
-        n,
-        0,
-        kind(at.says),
-        0,
-        known(at.says),
-        word(source.names.text, at.says, at.from, at.to),
-    )
+    let e = Entry {
+        op: 0,
+        kind: kind(at.says),
+        a: 0,
+        b: known(at.says),
+        word: word(source.names.text, at.says, at.from, at.to),
+    };
+    emit(image, source.base, n, e)
 }

@@ -8,6 +8,7 @@ use super::entries::last;
 use super::known::{Source, command, variable};
 use super::laying::add_node;
 use super::steps::next;
+use super::write::{NOTHING, Record};
 use recognise::Cursor;
 
 // Where a reader of nodes stands, and how many nodes, entries and variables there are.
@@ -35,9 +36,17 @@ fn task<'a>(
     let at = a.at;
     if at.says == 10 {
         let what = command(source, at);
-        let n = add_node(image, node, parent, 1, a.priority, given, what, 65535);
+        let called = Record {
+            parent,
+            form: 1,
+            priority: a.priority,
+            given,
+            what,
+            value: NOTHING,
+        };
+        let n = add_node(image, node, called);
         return Course {
-            at: at,
+            at,
             nodes: n,
             entries: a.entries,
             variables: a.variables,
@@ -45,19 +54,17 @@ fn task<'a>(
     }
     let v = variable(source, node, at);
     let e = expression(source, image, pending, node, at, a.entries);
-    let n = add_node(
-        image,
-        node,
+    let assigned = Record {
         parent,
-        2,
-        a.priority,
+        form: 2,
+        priority: a.priority,
         given,
-        v.number,
-        last(e.entries),
-    );
-    let after = e.at;
+        what: v.number,
+        value: last(e.entries),
+    };
+    let n = add_node(image, node, assigned);
     Course {
-        at: after,
+        at: e.at,
         nodes: n,
         entries: e.entries,
         variables: a.variables,
@@ -76,16 +83,24 @@ pub fn node<'a>(
 ) -> Course
     ensures { ReadsNode source.entry.names.text.now (tables_of source.entry) source.entry.base source.entry.vbase parent left c pending.old image.old result pending.new image.new }
 {
-    let mut given = [65535usize; 7];
+    let mut given = [NOTHING; 7];
     let a = attributes(source, image, pending, &mut given, c, left);
     let number = c.nodes;
     let at = a.at;
     if at.says != 8 {
         return task(source, image, pending, &given, number, parent, a);
     }
-    let n = add_node(image, number, parent, 0, a.priority, &given, 65535, 65535);
+    let listed = Record {
+        parent,
+        form: 0,
+        priority: a.priority,
+        given: &given,
+        what: NOTHING,
+        value: NOTHING,
+    };
+    let n = add_node(image, number, listed);
     let inner = Course {
-        at: at,
+        at,
         nodes: n,
         entries: a.entries,
         variables: a.variables,
@@ -111,12 +126,7 @@ pub fn list<'a>(
     let mut s = c;
     for _ in 0..left {
         let at = next(source.names, s.at);
-        let heard = Course {
-            at: at,
-            nodes: s.nodes,
-            entries: s.entries,
-            variables: s.variables,
-        };
+        let heard = Course { at, ..s };
         if at.says == 9 {
             return heard;
         }

@@ -2,9 +2,10 @@
 ghost use Rattle.std.specs.Prelude.{◌≡◌, length};
 ghost use Rattle.build.specs.Pendings.{Weighs, Pushed, Raised, Lowered, Keeps, IsPrefix, IsHeld, EndsOne, EndsAt, Prefixes, Unwinds, Follows};
 
-use super::entries::{emit, end_operator, last, strength};
+use super::entries::{NOT, emit, end_operator, last, strength};
 use super::known::Source;
 use super::steps::next;
+use super::write::{BLANK, Entry};
 use names::Tables;
 use recognise::Cursor;
 
@@ -78,7 +79,12 @@ fn end_one(image: &mut [u8; 41108], base: usize, n: usize, says: u8, a: usize) -
     ensures { EndsOne base n says a image.old result image.new }
 {
     if says == 79 {
-        return emit(image, base, n, 6, 0, last(n), 0, 0);
+        let e = Entry {
+            op: NOT,
+            a: last(n),
+            ..BLANK
+        };
+        return emit(image, base, n, e);
     }
     end_operator(image, base, n, says, a)
 }
@@ -120,7 +126,7 @@ pub fn prefixes<'a>(
         let says = at.says;
         if !is_prefix(says) {
             return Stand {
-                at: at,
+                at,
                 top: up,
                 entries: 0,
             };
@@ -129,7 +135,7 @@ pub fn prefixes<'a>(
         at = next(names, at);
     }
     Stand {
-        at: at,
+        at,
         top: up,
         entries: 0,
     }
@@ -208,8 +214,8 @@ pub fn follow<'a>(
         n = u.entries;
         if at.says != 92 {
             return Stand {
-                at: at,
-                top: top,
+                at,
+                top,
                 entries: n,
             };
         }
@@ -217,8 +223,8 @@ pub fn follow<'a>(
         at = next(source.names, at);
     }
     Stand {
-        at: at,
-        top: top,
+        at,
+        top,
         entries: n,
     }
 }

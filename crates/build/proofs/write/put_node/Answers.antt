@@ -9,7 +9,7 @@ use Rattle.build.proofs.write.put_node.Goals as goal
 
 pub returns : goal.returns
 unfolding bytes
-returns c e = let x = c.args in
+returns c e = let x = c.args.r in
     let g = words16 x.given.now in
     let n : length g ≡ 14 = omega (arith, words_size x.given.now) in
     let one = c.little.ensures e in
