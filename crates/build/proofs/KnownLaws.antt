@@ -12,16 +12,16 @@ use Rattle.notation.specs.Draft.{Lookup, Variable, Draft}
 use Rattle.notation.specs.Hearing.{draft_of}
 use Rattle.notation.specs.Names.{variable_of, lookup_of, command_of}
 use Rattle.notation.specs.Mapping.{number_of, kind_of_variable, kind_of_lookup, number_of_command}
-use Rattle.names.specs.declared.answers.NameFound.{NameFound}
+use Rattle.std.specs.Prelude.{Option, unwrap_or}
 use Rattle.names.specs.Answers.{Accepted, tale_said, found_of}
 use Rattle.names.specs.Tables.{Ready}
 use Rattle.recognise.specs.Tape.{Tape}
 use Rattle.build.specs.Known.{Tables, Known, StandsAt}
 
-pub place_is : (r : NameFound) (f : Found) → r ≡ found_of f → r.place ≡ number_of f
+pub place_is : (r : Option ℕ) (f : Found) → r ≡ found_of f → (unwrap_or r 0) ≡ number_of f
 unfolding found_of number_of
-place_is r (at i) e = ap (λ x. x.place) e
-place_is r nowhere e = ap (λ x. x.place) e
+place_is r (at i) e = ap (λ x. unwrap_or x 0) e
+place_is r nowhere e = ap (λ x. unwrap_or x 0) e
 
 variables-end : (vs : List Variable) (j : ℕ) → length vs ≤ j → kind_of_variable vs j ≡ 0
 unfolding kind_of_variable
@@ -35,14 +35,14 @@ lookups-end [] j h = refl
 lookups-end (v ∷ vs) zero h = absurd (omega arith)
 lookups-end (v ∷ vs) (suc j) h = lookups-end vs j (omega arith)
 
-module _ (u : List ℕ) (d : Draft) (t : Tables) (k : Known u d t) (r : NameFound) (w : ℕ) where
+module _ (u : List ℕ) (d : Draft) (t : Tables) (k : Known u d t) (r : Option ℕ) (w : ℕ) where
   -- what the resolution of a name answers, told of the draft
-  told_of : (f : Draft → Found) → ((l : List (Said Saying)) → Accepted u l → Ready u (tale_said l) t.from t.to t.owner t.told → r ≡ found_of (f (draft_of l))) → r.place ≡ number_of (f d)
+  told_of : (f : Draft → Found) → ((l : List (Said Saying)) → Accepted u l → Ready u (tale_said l) t.from t.to t.owner t.told → r ≡ found_of (f (draft_of l))) → (unwrap_or r 0) ≡ number_of (f d)
   told_of f h = place_is r (f d) (h k.said k.accepted k.ready ∙ ap (λ x. found_of (f x)) k.draft)
 
   pub means-variable : (n : ℕ) (x : Token) → ((l : List (Said Saying)) → Accepted u l → Ready u (tale_said l) t.from t.to t.owner t.told → r ≡ found_of (variable_of (draft_of l) n x))
-      → StandsAt t.kind 320 t.told.variables r.place w
-      → (r.place ≡ number_of (variable_of d n x)) × (w ≡ kind_of_variable d.variables (number_of (variable_of d n x)))
+      → StandsAt t.kind 320 t.told.variables (unwrap_or r 0) w
+      → ((unwrap_or r 0) ≡ number_of (variable_of d n x)) × (w ≡ kind_of_variable d.variables (number_of (variable_of d n x)))
   means-variable n x h st =
       let e = told_of (λ y. variable_of y n x) h in (
         e,
@@ -51,8 +51,8 @@ module _ (u : List ℕ) (d : Draft) (t : Tables) (k : Known u d t) (r : NameFoun
       )
 
   pub means-lookup : (x : Token) → ((l : List (Said Saying)) → Accepted u l → Ready u (tale_said l) t.from t.to t.owner t.told → r ≡ found_of (lookup_of (draft_of l) x))
-      → StandsAt t.kind 256 t.told.lookups r.place w
-      → (r.place ≡ number_of (lookup_of d x)) × (w ≡ kind_of_lookup d.lookups (number_of (lookup_of d x)))
+      → StandsAt t.kind 256 t.told.lookups (unwrap_or r 0) w
+      → ((unwrap_or r 0) ≡ number_of (lookup_of d x)) × (w ≡ kind_of_lookup d.lookups (number_of (lookup_of d x)))
   means-lookup x h st =
       let e = told_of (λ y. lookup_of y x) h in (
         e,
@@ -61,10 +61,10 @@ module _ (u : List ℕ) (d : Draft) (t : Tables) (k : Known u d t) (r : NameFoun
       )
 
   module _ (x : Token) (h : (l : List (Said Saying)) → Accepted u l → Ready u (tale_said l) t.from t.to t.owner t.told → r ≡ found_of (command_of (draft_of l) x)) where
-    pub means-command : r.place < 256 → w ≡ get_or t.kind r.place 0 → w ≡ number_of_command d.commands (number_of (command_of d x))
-    means-command few e = e ∙ k.command_numbers r.place few ∙ ap (number_of_command d.commands) (told_of (λ y. command_of y x) h)
+    pub means-command : (unwrap_or r 0) < 256 → w ≡ get_or t.kind (unwrap_or r 0) 0 → w ≡ number_of_command d.commands (number_of (command_of d x))
+    means-command few e = e ∙ k.command_numbers (unwrap_or r 0) few ∙ ap (number_of_command d.commands) (told_of (λ y. command_of y x) h)
 
-    pub means-later : ((l : List (Said Saying)) → Accepted u l → Tape u t.owner → w ≡ number_of_command (draft_of l).commands r.place) → w ≡ number_of_command d.commands (number_of (command_of d x))
+    pub means-later : ((l : List (Said Saying)) → Accepted u l → Tape u t.owner → w ≡ number_of_command (draft_of l).commands (unwrap_or r 0)) → w ≡ number_of_command d.commands (number_of (command_of d x))
     means-later f =
-        f k.said k.accepted k.ready.tape ∙ ap (λ (y : Draft). number_of_command y.commands r.place) k.draft
+        f k.said k.accepted k.ready.tape ∙ ap (λ (y : Draft). number_of_command y.commands (unwrap_or r 0)) k.draft
         ∙ ap (number_of_command d.commands) (told_of (λ y. command_of y x) h)

@@ -1,7 +1,7 @@
 -- Paths: a part at a time, and the question at their end.
 use Prim.Native.Nat.{ℕ, suc, ◌-◌, ◌≤◌, ◌<◌}
 use mathlib.Core.Path.{◌≡◌, refl, sym, ◌∙◌, ap}
-use mathlib.Core.Bool.{Bool, true, false, not, cond, false≢true}
+use mathlib.Core.Bool.{Bool, true, false, cond, false≢true}
 use mathlib.Core.List.{List, [], ◌∷◌, ◌++◌}
 use native.Mathlib.Omega.{arith}
 use lib.ListN.{length, get_or}
@@ -23,7 +23,7 @@ use Rattle.notation.specs.Mapping.{entry_bytes, number_of, what_code}
 use Rattle.recognise.specs.declared.Cursor.{Cursor}
 use Rattle.recognise.specs.Codes as Codes
 use Rattle.recognise.specs.Codes.{say_of}
-use Rattle.names.specs.declared.answers.NameFound.{NameFound}
+use Rattle.std.specs.Prelude.{Option, unwrap_or, is_some, Some, None}
 use Rattle.names.specs.Answers.{found_of}
 use Rattle.build.specs.Flow.{After, code_of}
 use Rattle.build.specs.Standing.{Scene, Fair, Stands, within}
@@ -63,20 +63,20 @@ pub path-one : (d : Draft) (n : ℕ) (h : Placed) → node_up d (suc n) n h.byte
 unfolding node_of node_down all_bytes
 path-one d n h = refl
 
-pub lost : (d : Draft) (m : NameFound) (f : Found) (x : Token) → m ≡ found_of f → not m.found ≡ true → m ≡ found_of (node_down d f (x ∷ []))
+pub lost : (d : Draft) (f : Found) (x : Token) → None ≡ found_of f → None ≡ found_of (node_down d f (x ∷ []))
 unfolding found_of node_down
-lost d m (at i) x e h = absurd (false≢true (sym (ap (λ z. not z.found) e) ∙ h))
-lost d m nowhere x e h = e
+lost d (at i) x e = absurd (false≢true (ap is_some e))
+lost d nowhere x e = e
 
-pub below : (a d : Draft) (m r : NameFound) (f : Found) (x : Token) → m ≡ found_of f → not m.found ≡ false → r ≡ found_of (child_of a m.place x) → a ≡ d → r ≡ found_of (node_down d f (x ∷ []))
+pub below : (a d : Draft) (m : ℕ) (r : Option ℕ) (f : Found) (x : Token) → Some m ≡ found_of f → r ≡ found_of (child_of a m x) → a ≡ d → r ≡ found_of (node_down d f (x ∷ []))
 unfolding found_of node_down
-below a d m r (at i) x e h q z = q ∙ ap (λ y. found_of (child_of y m.place x)) z ∙ ap (λ y. found_of (child_of d y.place x)) e
-below a d m r nowhere x e h q z = absurd (false≢true (sym h ∙ ap (λ y. not y.found) e))
+below a d m r (at i) x e q z = q ∙ ap (λ y. found_of (child_of y m x)) z ∙ ap (λ y. found_of (child_of d (unwrap_or y 0) x)) e
+below a d m r nowhere x e q z = absurd (false≢true (sym (ap is_some e)))
 
-pub first-means : (a d : Draft) (n : ℕ) (x : Token) (r : NameFound) → r ≡ found_of (node_up a (suc n) n x) → a ≡ d → r ≡ found_of (node_up d (suc n) n x)
+pub first-means : (a d : Draft) (n : ℕ) (x : Token) (r : Option ℕ) → r ≡ found_of (node_up a (suc n) n x) → a ≡ d → r ≡ found_of (node_up d (suc n) n x)
 first-means a d n x r e z = e ∙ ap (λ y. found_of (node_up y (suc n) n x)) z
 
-pub first_found : (d : Draft) (n : ℕ) (x : Token) (r : NameFound) (h : Placed) → r ≡ found_of (node_up d (suc n) n x) → x ≡ h.bytes → r ≡ found_of (node_of d n (all_bytes (h ∷ [])))
+pub first_found : (d : Draft) (n : ℕ) (x : Token) (r : Option ℕ) (h : Placed) → r ≡ found_of (node_up d (suc n) n x) → x ≡ h.bytes → r ≡ found_of (node_of d n (all_bytes (h ∷ [])))
 first_found d n x r h e z = e ∙ ap (λ y. found_of (node_up d (suc n) n y)) z ∙ ap found_of (path-one d n h)
 
 -- ---- a part is passed
@@ -120,7 +120,7 @@ pub nots-are : (n : ℕ) → 45 ≤ n → n ≤ 78
 unfolding all_below right Questions.opened Codes.opened flag
 nots-are n h m = question-at (0 ∷ 0 ∷ 0 ∷ 0 ∷ 0 ∷ 0 ∷ 0 ∷ 1 ∷ 1 ∷ 1 ∷ 1 ∷ 1 ∷ 1 ∷ 1 ∷ 0 ∷ 0 ∷ 0 ∷ 0 ∷ 1 ∷ 1 ∷ 1 ∷ 1 ∷ 0 ∷ 0 ∷ 0 ∷ 0 ∷ 0 ∷ 0 ∷ 1 ∷ 1 ∷ 1 ∷ 1 ∷ 1 ∷ 1 ∷ []) not_in refl n h m
 
-pub part-found : (d : Draft) (n : ℕ) (x : Token) (r : NameFound) (h : Placed) (hs : List Placed) (t : Placed) → x ≡ t.bytes
+pub part-found : (d : Draft) (n : ℕ) (x : Token) (r : Option ℕ) (h : Placed) (hs : List Placed) (t : Placed) → x ≡ t.bytes
     → r ≡ found_of (node_down d (node_of d n (all_bytes (h ∷ hs))) (x ∷ [])) → r ≡ found_of (node_of d n (all_bytes (h ∷ (hs ▸ t))))
 part-found d n x r h hs t e q = q ∙ ap (λ y. found_of (node_down d (node_of d n (all_bytes (h ∷ hs))) (y ∷ []))) e ∙ ap found_of (path-more d n h hs t)
 

@@ -10,7 +10,8 @@ use Rattle.notation.specs.Mapping.{number_of, kind_of_variable, kind_of_lookup, 
 use Rattle.recognise.specs.declared.Cursor.{Cursor}
 use Rattle.recognise.specs.Hears.{piece}
 use Rattle.names.specs.declared.table.Told.{Told}
-use Rattle.names.specs.declared.answers.NameFound.{NameFound}
+use Rattle.std.specs.Prelude.{Option, unwrap_or}
+use Rattle.build.specs.declared.known.Source.{Source}
 use Rattle.names.specs.Answers.{Accepted, tale_said, found_of}
 use Rattle.names.specs.Tables.{Ready}
 
@@ -24,6 +25,9 @@ pub record Tables : Type 0 where
 
 abbrev pub tables : List ℕ → List ℕ → List ℕ → List ℕ → Told → Tables
 tables a b c d t = record { from = a; to = b; owner = c; kind = d; told = t }
+
+abbrev pub tables_of : Source → Tables
+tables_of s = tables s.names.from.now s.names.to.now s.names.owner.now s.kind.now s.names.told
 
 pub record Known (u : List ℕ) (d : Draft) (t : Tables) : Type 0 where
   pub said : List (Said Saying)
@@ -59,8 +63,8 @@ abbrev pub StandsAt : List ℕ → ℕ → ℕ → ℕ → ℕ → Type 0
 StandsAt kind first count i r = (f : ℕ → ℕ) → count + first ≤ 704 → ((j : ℕ) → j < count → get_or kind (first + j) 0 ≡ f j) → ((j : ℕ) → count ≤ j → f j ≡ 0) → r ≡ f i
 
 -- the first part of a path at the node n, and each later part
-abbrev pub MeansFirst : List ℕ → Tables → ℕ → Cursor → NameFound → Type 0
-MeansFirst u t n c r = ((d : Draft) → Known u d t → n < 65535 → Lies u c → r ≡ found_of (node_up d (suc n) n (piece u c.from c.to))) × (r.place < 18446744073709551615)
+abbrev pub MeansFirst : List ℕ → Tables → ℕ → Cursor → Option ℕ → Type 0
+MeansFirst u t n c r = ((d : Draft) → Known u d t → n < 65535 → Lies u c → r ≡ found_of (node_up d (suc n) n (piece u c.from c.to))) × (unwrap_or r 0 < 18446744073709551615)
 
-abbrev pub MeansPart : List ℕ → Tables → NameFound → Cursor → NameFound → Type 0
-MeansPart u t m c r = ((d : Draft) (f : Found) → Known u d t → Lies u c → m ≡ found_of f → r ≡ found_of (node_down d f (piece u c.from c.to ∷ []))) × (r.place < 18446744073709551615)
+abbrev pub MeansPart : List ℕ → Tables → Option ℕ → Cursor → Option ℕ → Type 0
+MeansPart u t m c r = ((d : Draft) (f : Found) → Known u d t → Lies u c → m ≡ found_of f → r ≡ found_of (node_down d f (piece u c.from c.to ∷ []))) × (unwrap_or r 0 < 18446744073709551615)

@@ -1,15 +1,15 @@
 // What a node says of itself: its conditions, its priority and its variables.
-ghost use Rattle.build.specs.Known.{tables};
+ghost use Rattle.build.specs.Known.{tables_of};
 ghost use Rattle.build.specs.Telling.{Expresses, Ranks, Begins, Describes, Attributed};
 ghost use Rattle.std.specs.Prelude.{◌≡◌, length};
 
 use super::entries::last;
 use super::expressions::boolean;
+use super::known::Source;
 use super::laying::{add_variable, set_initial};
 use super::literals::word;
 use super::nodes::Course;
 use super::steps::{Progress, next};
-use names::Told;
 use recognise::Cursor;
 use words::number_of;
 
@@ -24,35 +24,23 @@ pub struct Described {
 
 // An expression, to its end.
 pub fn expression<'a>(
-    text: &'a [u8],
-    from: &'a [usize; 704],
-    to: &'a [usize; 704],
-    owner: &'a [usize; 10525],
-    kind: &'a [usize; 704],
-    told: Told,
+    source: Source<'a>,
     image: &mut [u8; 41108],
     pending: &mut [usize; 6147],
     node: usize,
-    base: usize,
     c: Cursor,
     count: usize,
 ) -> Progress
-    ensures { Expresses text.now (tables from.now to.now owner.now kind.now told) node base c count pending.old image.old result.at result.entries pending.new image.new }
+    ensures { Expresses source.entry.names.text.now (tables_of source.entry) node source.entry.base c count pending.old image.old result.at result.entries pending.new image.new }
 {
     boolean(
-        text,
-        from,
-        to,
-        owner,
-        kind,
-        told,
+        source,
         image,
         pending,
         node,
-        base,
         c,
         count,
-        text.len(),
+        source.names.text.len(),
     )
 }
 
@@ -60,15 +48,10 @@ pub fn expression<'a>(
 fn rank(text: &[u8], at: Cursor) -> usize
     ensures { Ranks text.now at result }
 {
-    let from = at.from;
-    let to = at.to;
-    if to < from {
-        return 0;
+    match text.get(at.from..at.to) {
+        Some(digits) => number_of(digits) as usize,
+        None => 0,
     }
-    if text.len() < to {
-        return 0;
-    }
-    number_of(&text[from..to]) as usize
 }
 
 // The initial value that it has heard: the constants' sayings have numbers higher by 8.
@@ -84,21 +67,14 @@ fn initial(text: &[u8], at: Cursor) -> u64
 
 // One attribute: a condition, the priority, a variable or its initial value.
 fn attribute<'a>(
-    text: &'a [u8],
-    from: &'a [usize; 704],
-    to: &'a [usize; 704],
-    owner: &'a [usize; 10525],
-    kind: &'a [usize; 704],
-    told: Told,
+    source: Source<'a>,
     image: &mut [u8; 41108],
     pending: &mut [usize; 6147],
     given: &mut [usize; 7],
     node: usize,
-    base: usize,
-    vbase: usize,
     a: Described,
 ) -> Described
-    ensures { Describes text.now (tables from.now to.now owner.now kind.now told) node base vbase a pending.old given.old image.old result pending.new given.new image.new × (length given.new ≡ length given.old) }
+    ensures { Describes source.entry.names.text.now (tables_of source.entry) node source.entry.base source.entry.vbase a pending.old given.old image.old result pending.new given.new image.new × (length given.new ≡ length given.old) }
 {
     let at = a.at;
     let says = at.says;
@@ -106,78 +82,62 @@ fn attribute<'a>(
         return a;
     }
     if says < 19 {
-        let e = expression(
-            text, from, to, owner, kind, told, image, pending, node, base, at, a.entries,
-        );
+        let e = expression(source, image, pending, node, at, a.entries);
         given[(says - 12) as usize] = last(e.entries);
         return Described {
-            at: next(text, owner, e.at),
+            at: next(source.names, e.at),
             entries: e.entries,
-            variables: a.variables,
-            priority: a.priority,
+            ..a
         };
     }
-    let then = next(text, owner, at);
+    let then = next(source.names, at);
     if says == 19 {
         return Described {
             at: then,
-            entries: a.entries,
-            variables: a.variables,
-            priority: rank(text, at),
+            priority: rank(source.names.text, at),
+            ..a
         };
     }
     if says < 23 {
         return Described {
             at: then,
-            entries: a.entries,
-            variables: add_variable(image, vbase, a.variables, says - 20, node),
-            priority: a.priority,
+            variables: add_variable(image, source.vbase, a.variables, says - 20, node),
+            ..a
         };
     }
-    set_initial(image, vbase, a.variables, initial(text, at));
-    Described {
-        at: then,
-        entries: a.entries,
-        variables: a.variables,
-        priority: a.priority,
-    }
+    set_initial(
+        image,
+        source.vbase,
+        a.variables,
+        initial(source.names.text, at),
+    );
+    Described { at: then, ..a }
 }
 
 // The attributes of the node that has begun, up to what it is.
 pub fn attributes<'a>(
-    text: &'a [u8],
-    from: &'a [usize; 704],
-    to: &'a [usize; 704],
-    owner: &'a [usize; 10525],
-    kind: &'a [usize; 704],
-    told: Told,
+    source: Source<'a>,
     image: &mut [u8; 41108],
     pending: &mut [usize; 6147],
     given: &mut [usize; 7],
-    base: usize,
-    vbase: usize,
     c: Course,
     left: usize,
 ) -> Described
-    ensures { Attributed text.now (tables from.now to.now owner.now kind.now told) base vbase left c pending.old given.old image.old result pending.new given.new image.new × (length given.new ≡ length given.old) }
+    ensures { Attributed source.entry.names.text.now (tables_of source.entry) source.entry.base source.entry.vbase left c pending.old given.old image.old result pending.new given.new image.new × (length given.new ≡ length given.old) }
 {
     let node = c.nodes;
     let mut a = Described {
-        at: next(text, owner, c.at),
+        at: next(source.names, c.at),
         entries: c.entries,
         variables: c.variables,
         priority: 0,
     };
-    let mut turns: usize = 0;
-    while turns < left {
+    for _ in 0..left {
         let at = a.at;
         if at.says < 12 {
             return a;
         }
-        a = attribute(
-            text, from, to, owner, kind, told, image, pending, given, node, base, vbase, a,
-        );
-        turns += 1;
+        a = attribute(source, image, pending, given, node, a);
     }
     a
 }

@@ -3,9 +3,10 @@ ghost use Rattle.std.specs.Prelude.{◌≡◌};
 ghost use Rattle.build.specs.Building.{Builds, Makes, counted_told};
 
 use super::declarations::declarations;
+use super::known::Source;
 use super::nodes::{Course, node};
-use super::write::put_header;
-use names::{Told, fill_kinds};
+use super::write::{NOTHING, put_header};
+use names::{Tables, Told, fill_kinds};
 use recognise::{Cursor, Recognised};
 
 // The tables' counts are the text's, for texts whose declarations are more than the tables', too.
@@ -22,57 +23,38 @@ fn counted(told: Told, seen: Recognised) -> Told
 }
 
 // The sections begin at `base`, `vbase` and `lbase`.
-fn sections<'a>(
-    text: &'a [u8],
-    from: &'a [usize; 704],
-    to: &'a [usize; 704],
-    owner: &'a [usize; 10525],
-    told: Told,
-    base: usize,
-    vbase: usize,
-    lbase: usize,
-    image: &mut [u8; 41108],
-)
-    ensures { Makes text.now from.now to.now owner.now told base vbase lbase image.old image.new }
+fn sections<'a>(names: Tables<'a>, base: usize, vbase: usize, lbase: usize, image: &mut [u8; 41108])
+    ensures { Makes names.entry.text.now names.entry.from.now names.entry.to.now names.entry.owner.now names.entry.told base vbase lbase image.old image.new }
 {
     let mut kind = [0usize; 704];
     let mut pending = [0usize; 6147];
-    fill_kinds(text, owner, &mut kind);
-    let at = declarations(text, owner, image, &mut kind, lbase);
+    fill_kinds(names.text, names.owner, &mut kind);
+    let at = declarations(names, image, &mut kind, lbase);
     let start = Course {
-        at: at,
+        at,
         nodes: 0,
         entries: 0,
         variables: 0,
     };
-    node(
-        text,
-        from,
-        to,
-        owner,
-        &kind,
-        told,
-        image,
-        &mut pending,
+    let source = Source {
+        names,
+        kind: &kind,
         base,
         vbase,
-        65535,
+    };
+    node(
+        source,
+        image,
+        &mut pending,
+        NOTHING,
         start,
-        text.len(),
+        names.text.len(),
     );
 }
 
 // The image, from the tables of the declarations and the counts.
-pub fn build<'a>(
-    text: &'a [u8],
-    from: &'a [usize; 704],
-    to: &'a [usize; 704],
-    owner: &'a [usize; 10525],
-    told: Told,
-    seen: Recognised,
-    image: &mut [u8; 41108],
-)
-    ensures { Builds text.now seen from.now to.now owner.now told image.old image.new }
+pub fn build<'a>(names: Tables<'a>, seen: Recognised, image: &mut [u8; 41108])
+    ensures { Builds names.entry.text.now seen names.entry.from.now names.entry.to.now names.entry.owner.now names.entry.told image.old image.new }
 {
     let nodes = seen.nodes;
     let entries = seen.entries;
@@ -90,19 +72,10 @@ pub fn build<'a>(
     if lookups > 64 {
         return;
     }
-    put_header(image, nodes, entries, variables, lookups);
+    put_header(image, seen);
     let base = 20 + 24 * nodes;
     let vbase = base + 16 * entries;
     let lbase = vbase + 16 * variables;
-    sections(
-        text,
-        from,
-        to,
-        owner,
-        counted(told, seen),
-        base,
-        vbase,
-        lbase,
-        image,
-    );
+    let told = counted(names.told, seen);
+    sections(Tables { told, ..names }, base, vbase, lbase, image);
 }

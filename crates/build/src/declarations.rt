@@ -3,6 +3,7 @@ ghost use Rattle.build.specs.Declarations.{Numbers, Records, Declares};
 
 use super::steps::next;
 use super::write::put_lookup;
+use names::Tables;
 use recognise::Cursor;
 use words::number_of;
 
@@ -10,16 +11,10 @@ use words::number_of;
 fn number(text: &[u8], kind: &mut [usize; 704], i: usize, at: Cursor)
     ensures { Numbers text.now i at kind.old kind.new }
 {
-    let from = at.from;
-    let to = at.to;
-    if to < from {
-        return;
-    }
-    if text.len() < to {
-        return;
-    }
-    if i < 256 {
-        kind[i] = number_of(&text[from..to]) as usize;
+    if let Some(digits) = text.get(at.from..at.to) {
+        if i < 256 {
+            kind[i] = number_of(digits) as usize;
+        }
     }
 }
 
@@ -37,19 +32,17 @@ fn lookup(image: &mut [u8; 41108], kind: &mut [usize; 704], base: usize, i: usiz
 
 // From the beginning of the text to the opening of the plan's node.
 pub(crate) fn declarations<'a>(
-    text: &'a [u8],
-    owner: &'a [usize; 10525],
+    names: Tables<'a>,
     image: &mut [u8; 41108],
     kind: &mut [usize; 704],
     base: usize,
 ) -> Cursor
-    ensures { Declares text.now owner.now base image.old kind.old result image.new kind.new }
+    ensures { Declares names.entry.text.now names.entry.owner.now base image.old kind.old result image.new kind.new }
 {
-    let mut at = next(text, owner, recognise::begin(owner));
+    let mut at = next(names, recognise::begin(names.owner));
     let mut commands: usize = 0;
     let mut lookups: usize = 0;
-    let mut turns: usize = 0;
-    while turns < text.len() {
+    for _ in 0..names.text.len() {
         let says = at.says;
         if says > 5 {
             return at;
@@ -58,12 +51,11 @@ pub(crate) fn declarations<'a>(
             lookup(image, kind, base, lookups, says - 3);
             lookups += 1;
         } else {
-            at = next(text, owner, at);
-            number(text, kind, commands, at);
+            at = next(names, at);
+            number(names.text, kind, commands, at);
             commands += 1;
         }
-        at = next(text, owner, at);
-        turns += 1;
+        at = next(names, at);
     }
     at
 }

@@ -4,31 +4,23 @@ ghost use Rattle.notation.specs.Mapping.{binary_code};
 ghost use Rattle.build.specs.Operators.{Tells, Binds, KindOf, Ends, binary_of, first_of};
 ghost use Rattle.build.specs.Steps.{Emits};
 
-use super::write::put_entry;
+use super::write::{BLANK, Entry, put_entry};
+
+// "6 NOT"
+pub const NOT: u8 = 6;
 
 // One more entry, where there is room for it; how many there are.
-pub fn emit(
-    image: &mut [u8; 41108],
-    base: usize,
-    n: usize,
-    op: u8,
-    kind: u8,
-    a: usize,
-    b: usize,
-    w: u64,
-) -> usize
-    ensures { Emits base n op kind a b w image.old result image.new }
+pub fn emit(image: &mut [u8; 41108], base: usize, n: usize, e: Entry) -> usize
+    ensures { Emits base n e.op e.kind e.a e.b e.word image.old result image.new }
 {
-    if n < 2048 {
-        if base <= 6164 {
-            put_entry(image, base + 16 * n, op, kind, a, b, w);
-            n + 1
-        } else {
-            n
-        }
-    } else {
-        n
+    if n >= 2048 {
+        return n;
     }
+    if base > 6164 {
+        return n;
+    }
+    put_entry(image, base + 16 * n, e);
+    n + 1
 }
 
 // The last of n.
@@ -105,19 +97,25 @@ pub fn end_operator(image: &mut [u8; 41108], base: usize, n: usize, says: u8, a:
     let b = last(n);
     let op = operator(says);
     let kind = kind_kept(image, base, op, a);
-    let m = emit(
-        image,
-        base,
-        n,
+    let e = Entry {
         op,
         kind,
-        first(says, a, b),
-        first(says, b, a),
-        0,
-    );
-    if says == 83 {
-        emit(image, base, m, 6, 0, n, 0, 0)
-    } else {
-        m
+        a: first(says, a, b),
+        b: first(says, b, a),
+        word: 0,
+    };
+    let m = emit(image, base, n, e);
+    if says != 83 {
+        return m;
     }
+    emit(
+        image,
+        base,
+        m,
+        Entry {
+            op: NOT,
+            a: n,
+            ..BLANK
+        },
+    )
 }

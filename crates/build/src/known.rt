@@ -1,10 +1,17 @@
 // What the names of a text mean, from the tables of its declarations.
-ghost use Rattle.build.specs.Known.{tables, StandsAt, MeansVariable, MeansLookup, MeansCommand, MeansFirst, MeansPart};
+ghost use Rattle.build.specs.Known.{tables_of, StandsAt, MeansVariable, MeansLookup, MeansCommand, MeansFirst, MeansPart};
 
-use names::{
-    NameFound, Told, child_of, command_number, command_of, lookup_of, node_up, variable_of,
-};
+use names::{Tables, command_number};
 use recognise::Cursor;
+
+// A text with what is known of its names: the tables of its declarations, and their kinds and numbers; and where the image's entries and variables begin.
+#[derive(Clone, Copy)]
+pub struct Source<'a> {
+    pub names: Tables<'a>,
+    pub kind: &'a [usize; 704],
+    pub base: usize,
+    pub vbase: usize,
+}
 
 // A declaration's number and kind.
 #[derive(Clone, Copy)]
@@ -30,86 +37,42 @@ fn standing(kind: &[usize; 704], first: usize, count: usize, i: usize) -> usize
 }
 
 // The variable that the token at the cursor names at the node n.
-pub fn variable<'a>(
-    text: &'a [u8],
-    from: &'a [usize; 704],
-    to: &'a [usize; 704],
-    owner: &'a [usize; 10525],
-    kind: &'a [usize; 704],
-    told: Told,
-    n: usize,
-    at: Cursor,
-) -> Meaning
-    ensures { MeansVariable text.now (tables from.now to.now owner.now kind.now told) n at result.number result.kind }
+pub fn variable<'a>(source: Source<'a>, n: usize, at: Cursor) -> Meaning
+    ensures { MeansVariable source.entry.names.text.now (tables_of source.entry) n at result.number result.kind }
 {
-    let a = at.from;
-    let e = at.to;
-    if e < a {
+    let Some(name) = source.names.text.get(at.from..at.to) else {
         return Meaning { number: 0, kind: 0 };
-    }
-    if text.len() < e {
-        return Meaning { number: 0, kind: 0 };
-    }
-    let f = variable_of(text, from, to, owner, told, n, &text[a..e]);
-    let k = standing(kind, 320, told.variables, f.place);
-    Meaning {
-        number: f.place,
-        kind: k,
-    }
+    };
+    let f = source.names.variable_of(n, name);
+    let number = f.unwrap_or(0);
+    let kind = standing(source.kind, 320, source.names.told.variables, number);
+    Meaning { number, kind }
 }
 
 // The lookup that it names.
-pub fn lookup<'a>(
-    text: &'a [u8],
-    from: &'a [usize; 704],
-    to: &'a [usize; 704],
-    owner: &'a [usize; 10525],
-    kind: &'a [usize; 704],
-    told: Told,
-    at: Cursor,
-) -> Meaning
-    ensures { MeansLookup text.now (tables from.now to.now owner.now kind.now told) at result.number result.kind }
+pub fn lookup<'a>(source: Source<'a>, at: Cursor) -> Meaning
+    ensures { MeansLookup source.entry.names.text.now (tables_of source.entry) at result.number result.kind }
 {
-    let a = at.from;
-    let e = at.to;
-    if e < a {
+    let Some(name) = source.names.text.get(at.from..at.to) else {
         return Meaning { number: 0, kind: 0 };
-    }
-    if text.len() < e {
-        return Meaning { number: 0, kind: 0 };
-    }
-    let f = lookup_of(text, from, to, owner, told, &text[a..e]);
-    let k = standing(kind, 256, told.lookups, f.place);
-    Meaning {
-        number: f.place,
-        kind: k,
-    }
+    };
+    let f = source.names.lookup_of(name);
+    let number = f.unwrap_or(0);
+    let kind = standing(source.kind, 256, source.names.told.lookups, number);
+    Meaning { number, kind }
 }
 
 // The number of the command that it names: the table has the first 256 of them.
-pub fn command<'a>(
-    text: &'a [u8],
-    from: &'a [usize; 704],
-    to: &'a [usize; 704],
-    owner: &'a [usize; 10525],
-    kind: &'a [usize; 704],
-    told: Told,
-    at: Cursor,
-) -> usize
-    ensures { MeansCommand text.now (tables from.now to.now owner.now kind.now told) at result }
+pub fn command<'a>(source: Source<'a>, at: Cursor) -> usize
+    ensures { MeansCommand source.entry.names.text.now (tables_of source.entry) at result }
 {
-    let a = at.from;
-    let e = at.to;
-    if e < a {
+    let Some(name) = source.names.text.get(at.from..at.to) else {
         return 0;
-    }
-    if text.len() < e {
-        return 0;
-    }
-    let f = command_of(text, from, to, owner, told, &text[a..e]);
-    let i = f.place;
+    };
+    let f = source.names.command_of(name);
+    let i = f.unwrap_or(0);
     if i < 256 {
-        return kind[i];
+        return source.kind[i];
     }
-    command_number(text, owner, i)
+    command_number(source.names.text, source.names.owner, i)
 }

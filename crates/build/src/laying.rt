@@ -2,37 +2,18 @@
 ghost use Rattle.std.specs.Prelude.{◌≡◌, length};
 ghost use Rattle.build.specs.Telling.{LaysNode, LaysVariable, LaysInitial};
 
-use super::write::{little, put_node, put_variable};
+use super::write::{Record, little, put_node, put_variable};
 
 // One more node, where there is room for it; how many there are.
-pub fn add_node(
-    image: &mut [u8; 41108],
-    n: usize,
-    parent: usize,
-    form: u8,
-    priority: usize,
-    given: &[usize; 7],
-    what: usize,
-    value: usize,
-) -> usize
-    requires { length given.now ≡ 7 }
-    ensures { LaysNode n parent form priority given.now what value image.old result image.new }
+pub fn add_node<'a>(image: &mut [u8; 41108], n: usize, r: Record<'a>) -> usize
+    requires { length r.given.now ≡ 7 }
+    ensures { LaysNode n r.entry.parent r.entry.form r.entry.priority r.entry.given.now r.entry.what r.entry.value image.old result image.new }
 {
-    if n < 256 {
-        put_node(
-            image,
-            20 + 24 * n,
-            parent,
-            form,
-            priority,
-            given,
-            what,
-            value,
-        );
-        n + 1
-    } else {
-        n
+    if n >= 256 {
+        return n;
     }
+    put_node(image, 20 + 24 * n, r);
+    n + 1
 }
 
 // One more variable, not known, where there is room for it; how many there are.

@@ -1,55 +1,52 @@
 // Operands that are no group and no NOT, "numeric" expressions among them: constants, lookups, variables, and questions about a node.
-ghost use Rattle.build.specs.Known.{tables};
+ghost use Rattle.build.specs.Known.{tables_of};
 ghost use Rattle.build.specs.Steps.{Leaves};
 ghost use Rattle.build.specs.Named.{Asks, Variables, Lookups};
 
-use super::entries::emit;
-use super::known::{lookup, variable};
+use super::entries::{NOT, emit};
+use super::known::{Source, lookup, variable};
 use super::literals::literal;
 use super::paths::{ask_code, ask_not, ask_op, walk};
 use super::steps::{Progress, next};
-use names::Told;
+use super::write::{BLANK, Entry};
 use recognise::Cursor;
 
 // A question about a node, whose name is the token at the cursor; what is said after it has been heard.
 fn question<'a>(
-    text: &'a [u8],
-    from: &'a [usize; 704],
-    to: &'a [usize; 704],
-    owner: &'a [usize; 10525],
-    kind: &'a [usize; 704],
-    told: Told,
+    source: Source<'a>,
     image: &mut [u8; 41108],
     node: usize,
-    base: usize,
     at: Cursor,
     after: Cursor,
     count: usize,
     left: usize,
 ) -> Progress
-    ensures { Asks text.now (tables from.now to.now owner.now kind.now told) node base left at after count image.old result.at result.entries image.new }
+    ensures { Asks source.entry.names.text.now (tables_of source.entry) node source.entry.base left at after count image.old result.at result.entries image.new }
 {
-    let q = walk(text, from, to, owner, kind, told, node, at, after, left);
+    let q = walk(source, node, at, after, left);
     let ask = q.at;
     let says = ask.says;
-    let n = emit(
-        image,
-        base,
-        count,
-        ask_op(says),
-        0,
-        q.number,
-        ask_code(says),
-        0,
-    );
-    let end = next(text, owner, ask);
+    let asked = Entry {
+        op: ask_op(says),
+        kind: 0,
+        a: q.number,
+        b: ask_code(says),
+        word: 0,
+    };
+    let n = emit(image, source.base, count, asked);
+    let end = next(source.names, ask);
     if ask_not(says) == 0 {
         return Progress {
             at: end,
             entries: n,
         };
     }
-    let m = emit(image, base, n, 6, 0, count, 0, 0);
+    let not = Entry {
+        op: NOT,
+        a: count,
+        ..BLANK
+    };
+    let m = emit(image, source.base, n, not);
     Progress {
         at: end,
         entries: m,
@@ -58,83 +55,70 @@ fn question<'a>(
 
 // The entry of a variable.
 fn variable_entry<'a>(
-    text: &'a [u8],
-    from: &'a [usize; 704],
-    to: &'a [usize; 704],
-    owner: &'a [usize; 10525],
-    kind: &'a [usize; 704],
-    told: Told,
+    source: Source<'a>,
     image: &mut [u8; 41108],
     node: usize,
-    base: usize,
     at: Cursor,
     count: usize,
 ) -> usize
-    ensures { Variables text.now (tables from.now to.now owner.now kind.now told) node base at count image.old result image.new }
+    ensures { Variables source.entry.names.text.now (tables_of source.entry) node source.entry.base at count image.old result image.new }
 {
-    let v = variable(text, from, to, owner, kind, told, node, at);
-    emit(image, base, count, 1, (v.kind % 256) as u8, v.number, 0, 0)
+    let v = variable(source, node, at);
+    let e = Entry {
+        op: 1,
+        kind: (v.kind % 256) as u8,
+        a: v.number,
+        b: 0,
+        word: 0,
+    };
+    emit(image, source.base, count, e)
 }
 
 // The entry of a lookup.
-fn lookup_entry<'a>(
-    text: &'a [u8],
-    from: &'a [usize; 704],
-    to: &'a [usize; 704],
-    owner: &'a [usize; 10525],
-    kind: &'a [usize; 704],
-    told: Told,
-    image: &mut [u8; 41108],
-    base: usize,
-    at: Cursor,
-    count: usize,
-) -> usize
-    ensures { Lookups text.now (tables from.now to.now owner.now kind.now told) base at count image.old result image.new }
+fn lookup_entry<'a>(source: Source<'a>, image: &mut [u8; 41108], at: Cursor, count: usize) -> usize
+    ensures { Lookups source.entry.names.text.now (tables_of source.entry) source.entry.base at count image.old result image.new }
 {
-    let v = lookup(text, from, to, owner, kind, told, at);
-    emit(image, base, count, 2, (v.kind % 256) as u8, v.number, 0, 0)
+    let v = lookup(source, at);
+    let e = Entry {
+        op: 2,
+        kind: (v.kind % 256) as u8,
+        a: v.number,
+        b: 0,
+        word: 0,
+    };
+    emit(image, source.base, count, e)
 }
 
 // An operand, whose first saying has been heard.
 pub fn numeric<'a>(
-    text: &'a [u8],
-    from: &'a [usize; 704],
-    to: &'a [usize; 704],
-    owner: &'a [usize; 10525],
-    kind: &'a [usize; 704],
-    told: Told,
+    source: Source<'a>,
     image: &mut [u8; 41108],
     node: usize,
-    base: usize,
     at: Cursor,
     count: usize,
     left: usize,
 ) -> Progress
-    ensures { Leaves text.now (tables from.now to.now owner.now kind.now told) node base left at count image.old result.at result.entries image.new }
+    ensures { Leaves source.entry.names.text.now (tables_of source.entry) node source.entry.base left at count image.old result.at result.entries image.new }
 {
-    let after = next(text, owner, at);
+    let after = next(source.names, at);
     if at.says < 42 {
-        let n = literal(text, image, base, at, count);
+        let n = literal(source, image, at, count);
         return Progress {
             at: after,
             entries: n,
         };
     }
     if at.says == 42 {
-        let n = lookup_entry(text, from, to, owner, kind, told, image, base, at, count);
+        let n = lookup_entry(source, image, at, count);
         return Progress {
             at: after,
             entries: n,
         };
     }
     if after.says < 79 {
-        return question(
-            text, from, to, owner, kind, told, image, node, base, at, after, count, left,
-        );
+        return question(source, image, node, at, after, count, left);
     }
-    let n = variable_entry(
-        text, from, to, owner, kind, told, image, node, base, at, count,
-    );
+    let n = variable_entry(source, image, node, at, count);
     Progress {
         at: after,
         entries: n,

@@ -2,6 +2,8 @@
 ghost use Rattle.build.specs.Literals.{OfLeaf, WordAt, Adds, known_of, kind_of};
 
 use super::entries::emit;
+use super::known::Source;
+use super::write::Entry;
 use recognise::Cursor;
 use words::{number_of, real_bits, signed, signed_bits};
 
@@ -39,33 +41,28 @@ pub fn word(text: &[u8], says: u8, from: usize, to: usize) -> u64
     if says < 33 {
         return 0;
     }
-    if to < from {
+    let Some(token) = text.get(from..to) else {
         return 0;
-    }
-    if text.len() < to {
-        return 0;
-    }
+    };
     if says < 35 {
-        return signed(says == 34, number_of(&text[from..to]));
+        return signed(says == 34, number_of(token));
     }
     if says < 37 {
-        return real_bits(&text[from..to], says == 36);
+        return real_bits(token, says == 36);
     }
-    signed_bits(says == 38, number_of(&text[from..to]))
+    signed_bits(says == 38, number_of(token))
 }
 
 // The entry of a constant.
-pub fn literal(text: &[u8], image: &mut [u8; 41108], base: usize, at: Cursor, n: usize) -> usize
-    ensures { Adds text.now base n at image.old result image.new }
+pub fn literal<'a>(source: Source<'a>, image: &mut [u8; 41108], at: Cursor, n: usize) -> usize
+    ensures { Adds source.entry.names.text.now source.entry.base n at image.old result image.new }
 {
-    emit(
-        image,
-        base,
-        n,
-        0,
-        kind(at.says),
-        0,
-        known(at.says),
-        word(text, at.says, at.from, at.to),
-    )
+    let e = Entry {
+        op: 0,
+        kind: kind(at.says),
+        a: 0,
+        b: known(at.says),
+        word: word(source.names.text, at.says, at.from, at.to),
+    };
+    emit(image, source.base, n, e)
 }

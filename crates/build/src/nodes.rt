@@ -1,14 +1,14 @@
 // Nodes: "node" and "list", which call each other with what is left falling.
 ghost use Rattle.std.specs.Prelude.{◌≡◌, length};
-ghost use Rattle.build.specs.Known.{tables};
+ghost use Rattle.build.specs.Known.{tables_of};
 ghost use Rattle.build.specs.Telling.{Tasks, ReadsNode, ReadsList};
 
 use super::attributes::{Described, attributes, expression};
 use super::entries::last;
-use super::known::{command, variable};
+use super::known::{Source, command, variable};
 use super::laying::add_node;
 use super::steps::next;
-use names::Told;
+use super::write::{NOTHING, Record};
 use recognise::Cursor;
 
 // Where a reader of nodes stands, and how many nodes, entries and variables there are.
@@ -22,52 +22,49 @@ pub struct Course {
 
 // "Command" or "Assignment", whose first saying has been heard.
 fn task<'a>(
-    text: &'a [u8],
-    from: &'a [usize; 704],
-    to: &'a [usize; 704],
-    owner: &'a [usize; 10525],
-    kind: &'a [usize; 704],
-    told: Told,
+    source: Source<'a>,
     image: &mut [u8; 41108],
     pending: &mut [usize; 6147],
     given: &'a [usize; 7],
     node: usize,
-    base: usize,
-    vbase: usize,
     parent: usize,
     a: Described,
 ) -> Course
     requires { length given.now ≡ 7 }
-    ensures { Tasks text.now (tables from.now to.now owner.now kind.now told) node base vbase parent a pending.old given.now image.old result pending.new image.new }
+    ensures { Tasks source.entry.names.text.now (tables_of source.entry) node source.entry.base source.entry.vbase parent a pending.old given.now image.old result pending.new image.new }
 {
     let at = a.at;
     if at.says == 10 {
-        let what = command(text, from, to, owner, kind, told, at);
-        let n = add_node(image, node, parent, 1, a.priority, given, what, 65535);
+        let what = command(source, at);
+        let called = Record {
+            parent,
+            form: 1,
+            priority: a.priority,
+            given,
+            what,
+            value: NOTHING,
+        };
+        let n = add_node(image, node, called);
         return Course {
-            at: at,
+            at,
             nodes: n,
             entries: a.entries,
             variables: a.variables,
         };
     }
-    let v = variable(text, from, to, owner, kind, told, node, at);
-    let e = expression(
-        text, from, to, owner, kind, told, image, pending, node, base, at, a.entries,
-    );
-    let n = add_node(
-        image,
-        node,
+    let v = variable(source, node, at);
+    let e = expression(source, image, pending, node, at, a.entries);
+    let assigned = Record {
         parent,
-        2,
-        a.priority,
+        form: 2,
+        priority: a.priority,
         given,
-        v.number,
-        last(e.entries),
-    );
-    let after = e.at;
+        what: v.number,
+        value: last(e.entries),
+    };
+    let n = add_node(image, node, assigned);
     Course {
-        at: after,
+        at: e.at,
         nodes: n,
         entries: e.entries,
         variables: a.variables,
@@ -77,37 +74,33 @@ fn task<'a>(
 // A node that has begun, below the node `parent`.
 #[cycle(list_node)]
 pub fn node<'a>(
-    text: &'a [u8],
-    from: &'a [usize; 704],
-    to: &'a [usize; 704],
-    owner: &'a [usize; 10525],
-    kind: &'a [usize; 704],
-    told: Told,
+    source: Source<'a>,
     image: &mut [u8; 41108],
     pending: &mut [usize; 6147],
-    base: usize,
-    vbase: usize,
     parent: usize,
     c: Course,
     left: usize,
 ) -> Course
-    ensures { ReadsNode text.now (tables from.now to.now owner.now kind.now told) base vbase parent left c pending.old image.old result pending.new image.new }
+    ensures { ReadsNode source.entry.names.text.now (tables_of source.entry) source.entry.base source.entry.vbase parent left c pending.old image.old result pending.new image.new }
 {
-    let mut given = [65535usize; 7];
-    let a = attributes(
-        text, from, to, owner, kind, told, image, pending, &mut given, base, vbase, c, left,
-    );
+    let mut given = [NOTHING; 7];
+    let a = attributes(source, image, pending, &mut given, c, left);
     let number = c.nodes;
     let at = a.at;
     if at.says != 8 {
-        return task(
-            text, from, to, owner, kind, told, image, pending, &given, number, base, vbase, parent,
-            a,
-        );
+        return task(source, image, pending, &given, number, parent, a);
     }
-    let n = add_node(image, number, parent, 0, a.priority, &given, 65535, 65535);
+    let listed = Record {
+        parent,
+        form: 0,
+        priority: a.priority,
+        given: &given,
+        what: NOTHING,
+        value: NOTHING,
+    };
+    let n = add_node(image, number, listed);
     let inner = Course {
-        at: at,
+        at,
         nodes: n,
         entries: a.entries,
         variables: a.variables,
@@ -115,71 +108,29 @@ pub fn node<'a>(
     if left == 0 {
         return inner;
     }
-    list(
-        text,
-        from,
-        to,
-        owner,
-        kind,
-        told,
-        image,
-        pending,
-        base,
-        vbase,
-        number,
-        inner,
-        left - 1,
-    )
+    list(source, image, pending, number, inner, left - 1)
 }
 
 // The nodes of the list whose node is `above`, to its end.
 #[cycle(list_node)]
 pub fn list<'a>(
-    text: &'a [u8],
-    from: &'a [usize; 704],
-    to: &'a [usize; 704],
-    owner: &'a [usize; 10525],
-    kind: &'a [usize; 704],
-    told: Told,
+    source: Source<'a>,
     image: &mut [u8; 41108],
     pending: &mut [usize; 6147],
-    base: usize,
-    vbase: usize,
     above: usize,
     c: Course,
     left: usize,
 ) -> Course
-    ensures { ReadsList text.now (tables from.now to.now owner.now kind.now told) base vbase above left c pending.old image.old result pending.new image.new }
+    ensures { ReadsList source.entry.names.text.now (tables_of source.entry) source.entry.base source.entry.vbase above left c pending.old image.old result pending.new image.new }
 {
     let mut s = c;
-    let mut turns: usize = 0;
-    while turns < left {
-        let at = next(text, owner, s.at);
-        let heard = Course {
-            at: at,
-            nodes: s.nodes,
-            entries: s.entries,
-            variables: s.variables,
-        };
+    for _ in 0..left {
+        let at = next(source.names, s.at);
+        let heard = Course { at, ..s };
         if at.says == 9 {
             return heard;
         }
-        s = node(
-            text,
-            from,
-            to,
-            owner,
-            kind,
-            told,
-            image,
-            pending,
-            base,
-            vbase,
-            above,
-            heard,
-            left - 1,
-        );
-        turns += 1;
+        s = node(source, image, pending, above, heard, left - 1);
     }
     s
 }

@@ -1,10 +1,10 @@
 // Paths to nodes, and what is asked of a node.
-ghost use Rattle.std.specs.Prelude.{◌<◌};
-ghost use Rattle.build.specs.Known.{tables, MeansFirst, MeansPart};
+ghost use Rattle.std.specs.Prelude.{◌<◌, unwrap_or};
+ghost use Rattle.build.specs.Known.{tables_of, MeansFirst, MeansPart};
 ghost use Rattle.build.specs.Questions.{Walks, OfQuestion, op_of, code_in, not_in};
 
+use super::known::Source;
 use super::steps::next;
-use names::{NameFound, Told, child_of, node_up};
 use recognise::Cursor;
 
 // A question that has been heard, and the number of the node that it is about.
@@ -15,101 +15,45 @@ pub struct Question {
 }
 
 // The first part of a path, at the node n.
-fn first_part<'a>(
-    text: &'a [u8],
-    from: &'a [usize; 704],
-    to: &'a [usize; 704],
-    owner: &'a [usize; 10525],
-    kind: &'a [usize; 704],
-    told: Told,
-    n: usize,
-    at: Cursor,
-) -> NameFound
-    ensures { MeansFirst text.now (tables from.now to.now owner.now kind.now told) n at result }
+fn first_part<'a>(source: Source<'a>, n: usize, at: Cursor) -> Option<usize>
+    ensures { MeansFirst source.entry.names.text.now (tables_of source.entry) n at result }
 {
-    let a = at.from;
-    let e = at.to;
-    if e < a {
-        return NameFound {
-            found: false,
-            place: 0,
-        };
-    }
-    if text.len() < e {
-        return NameFound {
-            found: false,
-            place: 0,
-        };
-    }
+    let name = source.names.text.get(at.from..at.to)?;
     if n >= 65535 {
-        return NameFound {
-            found: false,
-            place: 0,
-        };
+        return None;
     }
-    node_up(text, from, to, owner, told, n, &text[a..e])
+    source.names.node_up(n, name)
 }
 
 // A later part, below what was found.
-fn part<'a>(
-    text: &'a [u8],
-    from: &'a [usize; 704],
-    to: &'a [usize; 704],
-    owner: &'a [usize; 10525],
-    kind: &'a [usize; 704],
-    told: Told,
-    m: NameFound,
-    at: Cursor,
-) -> NameFound
-    requires { m.place < 18446744073709551615 }
-    ensures { MeansPart text.now (tables from.now to.now owner.now kind.now told) m at result }
+fn part<'a>(source: Source<'a>, m: Option<usize>, at: Cursor) -> Option<usize>
+    requires { unwrap_or m 0 < 18446744073709551615 }
+    ensures { MeansPart source.entry.names.text.now (tables_of source.entry) m at result }
 {
-    let a = at.from;
-    let e = at.to;
-    if e < a {
-        return m;
-    }
-    if text.len() < e {
-        return m;
-    }
-    if !m.found {
-        return m;
-    }
-    child_of(text, from, to, owner, told, m.place, &text[a..e])
+    let name = source.names.text.get(at.from..at.to)?;
+    let above = m?;
+    source.names.child_of(above, name)
 }
 
 // Along the path that begins with the token at `at` to its question; the saying after that token has been heard at c.
-pub fn walk<'a>(
-    text: &'a [u8],
-    from: &'a [usize; 704],
-    to: &'a [usize; 704],
-    owner: &'a [usize; 10525],
-    kind: &'a [usize; 704],
-    told: Told,
-    node: usize,
-    at: Cursor,
-    c: Cursor,
-    left: usize,
-) -> Question
-    ensures { Walks text.now (tables from.now to.now owner.now kind.now told) node left at c result.at result.number }
+pub fn walk<'a>(source: Source<'a>, node: usize, at: Cursor, c: Cursor, left: usize) -> Question
+    ensures { Walks source.entry.names.text.now (tables_of source.entry) node left at c result.at result.number }
 {
-    let mut found = first_part(text, from, to, owner, kind, told, node, at);
+    let mut found = first_part(source, node, at);
     let mut to_ask = c;
-    let mut turns: usize = 0;
-    while turns < left {
+    for _ in 0..left {
         if to_ask.says != 44 {
             return Question {
                 at: to_ask,
-                number: found.place,
+                number: found.unwrap_or(0),
             };
         }
-        found = part(text, from, to, owner, kind, told, found, to_ask);
-        to_ask = next(text, owner, to_ask);
-        turns += 1;
+        found = part(source, found, to_ask);
+        to_ask = next(source.names, to_ask);
     }
     Question {
         at: to_ask,
-        number: found.place,
+        number: found.unwrap_or(0),
     }
 }
 

@@ -2,8 +2,11 @@
 ghost use Rattle.std.specs.Prelude.{◌≡◌, length};
 ghost use Rattle.build.specs.Pendings.{Weighs, Pushed, Raised, Lowered, Keeps, IsPrefix, IsHeld, EndsOne, EndsAt, Prefixes, Unwinds, Follows};
 
-use super::entries::{emit, end_operator, last, strength};
+use super::entries::{NOT, emit, end_operator, last, strength};
+use super::known::Source;
 use super::steps::next;
+use super::write::{BLANK, Entry};
+use names::Tables;
 use recognise::Cursor;
 
 // Where a reader stands, how many operators are kept, and how many entries there are.
@@ -76,7 +79,12 @@ fn end_one(image: &mut [u8; 41108], base: usize, n: usize, says: u8, a: usize) -
     ensures { EndsOne base n says a image.old result image.new }
 {
     if says == 79 {
-        return emit(image, base, n, 6, 0, last(n), 0, 0);
+        let e = Entry {
+            op: NOT,
+            a: last(n),
+            ..BLANK
+        };
+        return emit(image, base, n, e);
     }
     end_operator(image, base, n, says, a)
 }
@@ -104,33 +112,30 @@ fn keep(pending: &mut [usize; 6147], top: usize, says: u8) -> usize
 
 // Past the parentheses and NOTs before an operand, at most `left`.
 pub fn prefixes<'a>(
-    text: &'a [u8],
-    owner: &'a [usize; 10525],
+    names: Tables<'a>,
     pending: &mut [usize; 6147],
     top: usize,
     c: Cursor,
     left: usize,
 ) -> Stand
-    ensures { Prefixes text.now owner.now left top c pending.old result.at result.top pending.new }
+    ensures { Prefixes names.entry.text.now names.entry.owner.now left top c pending.old result.at result.top pending.new }
 {
-    let mut at = next(text, owner, c);
+    let mut at = next(names, c);
     let mut up = top;
-    let mut turns: usize = 0;
-    while turns < left {
+    for _ in 0..left {
         let says = at.says;
         if !is_prefix(says) {
             return Stand {
-                at: at,
+                at,
                 top: up,
                 entries: 0,
             };
         }
         up = keep(pending, up, says);
-        at = next(text, owner, at);
-        turns += 1;
+        at = next(names, at);
     }
     Stand {
-        at: at,
+        at,
         top: up,
         entries: 0,
     }
@@ -192,38 +197,34 @@ fn unwind(
 
 // After an operand: what is said next ends the operators that it ends, and parentheses close, at most `left`.
 pub fn follow<'a>(
-    text: &'a [u8],
-    owner: &'a [usize; 10525],
+    source: Source<'a>,
     image: &mut [u8; 41108],
-    base: usize,
     pending: &mut [usize; 6147],
     s: Stand,
     left: usize,
 ) -> Stand
-    ensures { Follows text.now owner.now base left s.top s.at s.entries pending.old image.old result.at result.top result.entries pending.new image.new }
+    ensures { Follows source.entry.names.text.now source.entry.names.owner.now source.entry.base left s.top s.at s.entries pending.old image.old result.at result.top result.entries pending.new image.new }
 {
     let mut at = s.at;
     let mut top = s.top;
     let mut n = s.entries;
-    let mut turns: usize = 0;
-    while turns < left {
-        let u = unwind(image, base, pending, top, n, strength(at.says));
+    for _ in 0..left {
+        let u = unwind(image, source.base, pending, top, n, strength(at.says));
         top = u.top;
         n = u.entries;
         if at.says != 92 {
             return Stand {
-                at: at,
-                top: top,
+                at,
+                top,
                 entries: n,
             };
         }
         lower(pending, top);
-        at = next(text, owner, at);
-        turns += 1;
+        at = next(source.names, at);
     }
     Stand {
-        at: at,
-        top: top,
+        at,
+        top,
         entries: n,
     }
 }

@@ -2,6 +2,7 @@
 ghost use Rattle.recognise.specs.Tape.{Tape};
 ghost use Rattle.build.specs.Steps.{Stepped};
 
+use names::Tables;
 use recognise::Cursor;
 
 // Where a reader of expressions stands, and how many entries there are.
@@ -12,8 +13,8 @@ pub struct Progress {
 }
 
 // To the next saying.
-pub fn next<'a>(text: &'a [u8], owner: &'a [usize; 10525], c: Cursor) -> Cursor
-    ensures { Tape text.now owner.now → Stepped text.now c result }
+pub fn next<'a>(names: Tables<'a>, c: Cursor) -> Cursor
+    ensures { Tape names.entry.text.now names.entry.owner.now → Stepped names.entry.text.now c result }
 {
-    recognise::next(text, owner, c)
+    recognise::next(names.text, names.owner, c)
 }

@@ -5,6 +5,8 @@ ghost use Rattle.plexil.specs.Lists.{put};
 ghost use Rattle.plexil.specs.Assemble.{bytes};
 ghost use Rattle.plexil.specs.Assemble as Assemble;
 
+use recognise::Recognised;
+
 // Two bytes.
 fn pair(image: &mut [u8; 41108], at: usize, x: u8, y: u8)
     requires { at + 2 ≤ 41108 }
@@ -19,25 +21,41 @@ pub fn little(image: &mut [u8; 41108], at: usize, k: usize, n: u64)
     requires { at + k ≤ 41108 }
     ensures { length image.old ≡ 41108 → image.new ≡ put image.old at (bytes k n) }
 {
-    let mut i: usize = 0;
     let mut m = n;
-    while i < k {
+    for i in 0..k {
         image[at + i] = (m % 256) as u8;
         m = m / 256;
-        i += 1;
     }
 }
 
-// An expression's entry.
-pub fn put_entry(image: &mut [u8; 41108], at: usize, op: u8, kind: u8, a: usize, b: usize, w: u64)
+// An expression's entry: its code, the kind of its value, its operands and the bits of a constant.
+#[derive(Clone, Copy)]
+pub struct Entry {
+    pub op: u8,
+    pub kind: u8,
+    pub a: usize,
+    pub b: usize,
+    pub word: u64,
+}
+
+// The entry that says nothing but its code 0.
+pub const BLANK: Entry = Entry {
+    op: 0,
+    kind: 0,
+    a: 0,
+    b: 0,
+    word: 0,
+};
+
+pub fn put_entry(image: &mut [u8; 41108], at: usize, e: Entry)
     requires { at + 16 ≤ 41108 }
-    ensures { length image.old ≡ 41108 → image.new ≡ put image.old at (Assemble.expr op kind a b w) }
+    ensures { length image.old ≡ 41108 → image.new ≡ put image.old at (Assemble.expr e.op e.kind e.a e.b e.word) }
 {
-    pair(image, at, op, kind);
-    little(image, at + 2, 2, a as u64);
-    little(image, at + 4, 2, b as u64);
+    pair(image, at, e.op, e.kind);
+    little(image, at + 2, 2, e.a as u64);
+    little(image, at + 4, 2, e.b as u64);
     little(image, at + 6, 2, 0);
-    little(image, at + 8, 8, w);
+    little(image, at + 8, 8, e.word);
 }
 
 // A variable's record.
@@ -64,64 +82,61 @@ fn words(image: &mut [u8; 41108], at: usize, ws: &[usize])
     requires { at + 2 * length ws.now ≤ 41108 }
     ensures { length image.old ≡ 41108 → image.new ≡ put image.old at (Assemble.words16 ws.now) }
 {
-    let mut i: usize = 0;
-    while i < ws.len() {
+    for i in 0..ws.len() {
         little(image, at + 2 * i, 2, ws[i] as u64);
-        i += 1;
     }
 }
 
-// A node's record.
-pub fn put_node(
-    image: &mut [u8; 41108],
-    at: usize,
-    parent: usize,
-    form: u8,
-    priority: usize,
-    given: &[usize; 7],
-    what: usize,
-    value: usize,
-)
-    requires fact_1 { at + 24 ≤ 41108 }
-    requires fact_2 { length given.now ≡ 7 }
-    ensures { length image.old ≡ 41108 → image.new ≡ put image.old at (Assemble.node parent form priority given.now what value) }
+// What the image has where there is no parent, no condition or no entry.
+pub const NOTHING: usize = 65535;
+
+// A node's record: its parent, form and priority, the entries of its conditions, and what it does, to which value.
+#[derive(Clone, Copy)]
+pub struct Record<'a> {
+    pub parent: usize,
+    pub form: u8,
+    pub priority: usize,
+    pub given: &'a [usize; 7],
+    pub what: usize,
+    pub value: usize,
+}
+
+pub fn put_node<'a>(image: &mut [u8; 41108], at: usize, r: Record<'a>)
+    requires room { at + 24 ≤ 41108 }
+    requires seven_given { length r.given.now ≡ 7 }
+    ensures { length image.old ≡ 41108 → image.new ≡ put image.old at (Assemble.node r.entry.parent r.entry.form r.entry.priority r.entry.given.now r.entry.what r.entry.value) }
 {
-    little(image, at, 2, parent as u64);
-    pair(image, at + 2, form, 0);
-    little(image, at + 4, 2, priority as u64);
+    little(image, at, 2, r.parent as u64);
+    pair(image, at + 2, r.form, 0);
+    little(image, at + 4, 2, r.priority as u64);
+    let given = r.given;
     words(image, at + 6, given);
-    little(image, at + 20, 2, what as u64);
-    little(image, at + 22, 2, value as u64);
+    little(image, at + 20, 2, r.what as u64);
+    little(image, at + 22, 2, r.value as u64);
 }
 
 // The header: "N (1..256), .. E (0..2048), .. V (0..128), .. L (0..64)", and where the sections begin.
-pub fn put_header(
-    image: &mut [u8; 41108],
-    nodes: usize,
-    entries: usize,
-    variables: usize,
-    lookups: usize,
-)
-    requires fact_1 { nodes ≤ 256 }
-    requires fact_2 { entries ≤ 2048 }
-    requires fact_3 { variables ≤ 128 }
-    requires fact_4 { lookups ≤ 64 }
-    ensures { length image.old ≡ 41108 → image.new ≡ put image.old 0 (header nodes entries variables lookups) }
+pub fn put_header(image: &mut [u8; 41108], seen: Recognised)
+    requires few_nodes { seen.nodes ≤ 256 }
+    requires few_entries { seen.entries ≤ 2048 }
+    requires few_variables { seen.variables ≤ 128 }
+    requires few_lookups { seen.lookups ≤ 64 }
+    ensures { length image.old ≡ 41108 → image.new ≡ put image.old 0 (header seen.nodes seen.entries seen.variables seen.lookups) }
 {
-    let a = 20 + 24 * nodes;
-    let b = a + 16 * entries;
-    let c = b + 16 * variables;
+    let a = 20 + 24 * seen.nodes;
+    let b = a + 16 * seen.entries;
+    let c = b + 16 * seen.variables;
     let row = [
         1,
-        nodes,
-        entries,
-        variables,
-        lookups,
+        seen.nodes,
+        seen.entries,
+        seen.variables,
+        seen.lookups,
         20,
         a,
         b,
         c,
-        c + 2 * lookups,
+        c + 2 * seen.lookups,
     ];
     words(image, 0, &row);
 }

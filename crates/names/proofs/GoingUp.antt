@@ -9,7 +9,7 @@ use Rattle.grammar.specs.Spelling.{Token}
 use Rattle.notation.specs.Draft.{Draft}
 use Rattle.notation.specs.Hearing.{parent_in}
 use Rattle.notation.specs.Names.{own_variable, variable_up, node_at, node_up}
-use Rattle.names.specs.declared.answers.NameFound.{NameFound}
+use Rattle.std.specs.Prelude.{Option, unwrap_or, is_some, Some, None}
 use Rattle.names.specs.Answers.{found_of}
 
 -- f at node n, else at its parent, and so on up, at most k nodes
@@ -38,8 +38,17 @@ node-up d x (suc k) (suc n) = onto (node_at d (suc n) x) (node-up d x k (parent_
     onto (at v) e = refl
     onto nowhere e = e
 
+-- the code's answers
+pub none-is : ◌≡◌ {A = Option ℕ} None (found_of nowhere)
+unfolding found_of
+none-is = refl
+
+pub some-is : (i : ℕ) → ◌≡◌ {A = Option ℕ} (Some i) (found_of (at i))
+unfolding found_of
+some-is i = refl
+
 -- an answer that was found, and one that was not
-pub found-is : (f : Found) → (found_of f).found ≡ false → f ≡ nowhere
+pub found-is : (f : Found) → is_some (found_of f) ≡ false → f ≡ nowhere
 unfolding found_of
 found-is (at i) e = absurd (let z : ◌≡◌ {A = ℕ} 0 1 = cc in omega arith)
 found-is nowhere e = refl
@@ -49,23 +58,23 @@ else-on (at v) a e = absurd (let z : ◌≡◌ {A = ℕ} 0 1 = cc in omega arith
 else-on nowhere a e = refl
 
 module _ (f : ℕ → Found) (p : ℕ → ℕ) where
-  pub up-found : (k n : ℕ) → (found_of (f n)).found ≡ true → go_up f p (suc k) n ≡ f n
+  pub up-found : (k n : ℕ) → is_some (found_of (f n)) ≡ true → go_up f p (suc k) n ≡ f n
   unfolding found_of go_up
   up-found k zero e = refl
   up-found k (suc n) e = onto (f (suc n)) e
     where
-      onto : (g : Found) → (found_of g).found ≡ true → ◌≡◌ {A = Found} (elim g [ at v ↦ at v | nowhere ↦ go_up f p k (p (suc n)) ]) g
+      onto : (g : Found) → is_some (found_of g) ≡ true → ◌≡◌ {A = Found} (elim g [ at v ↦ at v | nowhere ↦ go_up f p k (p (suc n)) ]) g
       onto (at v) e = refl
       onto nowhere e = absurd (let z : ◌≡◌ {A = ℕ} 0 1 = cc in omega arith)
 
-  pub up-over : (k n : ℕ) → (found_of (f n)).found ≡ false → (n ≡ 0) ⊎ (k ≡ 0) → go_up f p (suc k) n ≡ nowhere
+  pub up-over : (k n : ℕ) → is_some (found_of (f n)) ≡ false → (n ≡ 0) ⊎ (k ≡ 0) → go_up f p (suc k) n ≡ nowhere
   unfolding go_up
   up-over k zero e h = found-is (f 0) e
   up-over k (suc n) e (inl h) = absurd (omega arith)
   up-over zero (suc n) e (inr h) = else-on (f (suc n)) nowhere (found-is (f (suc n)) e)
   up-over (suc k) (suc n) e (inr h) = absurd (omega arith)
 
-  pub up-on : (k n r : ℕ) → (found_of (f n)).found ≡ false → (n ≡ 0 → ⊥) → (k ≡ 0 → ⊥) → ((i : ℕ) → n ≡ suc i → r ≡ p (suc i)) → go_up f p (suc k) n ≡ go_up f p (suc (k - 1)) r
+  pub up-on : (k n r : ℕ) → is_some (found_of (f n)) ≡ false → (n ≡ 0 → ⊥) → (k ≡ 0 → ⊥) → ((i : ℕ) → n ≡ suc i → r ≡ p (suc i)) → go_up f p (suc k) n ≡ go_up f p (suc (k - 1)) r
   unfolding go_up
   up-on k zero r e h i g = absurd (h refl)
   up-on zero (suc n) r e h i g = absurd (i refl)
@@ -73,10 +82,10 @@ module _ (f : ℕ → Found) (p : ℕ → ℕ) where
       let z : suc k ≡ suc (suc k - 1) = omega arith in
       else-on (f (suc n)) (go_up f p (suc k) (p (suc n))) (found-is (f (suc n)) e) ∙ ap (λ i. go_up f p i (p (suc n))) z ∙ ap (go_up f p (suc (suc k - 1))) (sym (g n refl))
 
-pub small-nowhere : {r : NameFound} → r ≡ found_of nowhere → r.place < 18446744073709551615
+pub small-nowhere : {r : Option ℕ} → r ≡ found_of nowhere → unwrap_or r 0 < 18446744073709551615
 unfolding found_of
 small-nowhere e = rw e (omega arith)
 
-pub small_at : {r : NameFound} (i : ℕ) → r ≡ found_of (at i) → i < 18446744073709551615 → r.place < 18446744073709551615
+pub small_at : {r : Option ℕ} (i : ℕ) → r ≡ found_of (at i) → i < 18446744073709551615 → unwrap_or r 0 < 18446744073709551615
 unfolding found_of
 small_at i e h = rw e h

@@ -17,7 +17,7 @@ use Rattle.notation.specs.Hearing.{◌▸◌, draft_of}
 use Rattle.notation.specs.Names.{command_of, lookup_of, variable_of, is_at, is_found, in_order, bad_mention}
 use Rattle.recognise.specs.Hears.{piece}
 use Rattle.names.specs.declared.walk.Walk.{Walk}
-use Rattle.names.specs.declared.answers.NameFound.{NameFound}
+use Rattle.std.specs.Prelude.{Option, is_some}
 use Rattle.names.specs.Roles.{Role, role_of, role_number, detail_of}
 use Rattle.names.specs.Tale.{Declared, Tale, list_of, here_in, parts, settling, tell, tell_of}
 use Rattle.names.specs.Seek.{seek, nobody}
@@ -65,8 +65,8 @@ held_kept k t b Role.descend e f g h = absurd (f refl)
 held_kept k t b Role.ask e f g h = absurd (g refl)
 held_kept k t b Role.settle e f g h = absurd (h refl)
 
-pub answer-found : (f : NameFound) (g : Found) → f ≡ found_of g → f.found ≡ is_found g
-answer-found f g e = ap (λ (z : NameFound). z.found) e ∙ found-same g
+pub answer-found : (f : Option ℕ) (g : Found) → f ≡ found_of g → is_some f ≡ is_found g
+answer-found f g e = ap is_some e ∙ found-same g
 
 module _ (u : List ℕ) (l : List (Said Saying)) (a : Accepted u l) (w : Walk) (b : Tale) (x : Said Saying) (h : Hearing u l w b x) where
   abbrev heard : Role

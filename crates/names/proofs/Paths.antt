@@ -12,7 +12,7 @@ use Rattle.notation.specs.Draft.{Draft, Mention, Mentioned, use_of_node, use_of_
 use Rattle.notation.specs.Hearing.{◌▸◌, all_bytes}
 use Rattle.notation.specs.Names.{is_found, is_at, variable_of, child_of, node_up, node_down, node_of, in_order, bad_mention}
 use Rattle.recognise.specs.Hears.{piece}
-use Rattle.names.specs.declared.answers.NameFound.{NameFound}
+use Rattle.std.specs.Prelude.{Option, unwrap_or, is_some, Some, None}
 use Rattle.names.specs.declared.judge.Path.{Path}
 use Rattle.names.specs.Tale.{parts}
 use Rattle.names.specs.Answers.{found_of}
@@ -27,7 +27,7 @@ bad-one d m n = onto (in_order d m)
     onto true = refl
     onto false = refl
 
-pub found-same : (f : Found) → (found_of f).found ≡ is_found f
+pub found-same : (f : Found) → is_some (found_of f) ≡ is_found f
 unfolding found_of is_found
 found-same (at i) = refl
 found-same nowhere = refl
@@ -70,7 +70,7 @@ down-snoc d y [] f = refl
 down-snoc d y (x ∷ xs) nowhere = refl
 down-snoc d y (x ∷ xs) (at m) = down-snoc d y xs (child_of d m x)
 
-first-followed : (d : Draft) (n : ℕ) (t : Placed) (i j : ℕ) (f : NameFound) → i ≡ t.place → f ≡ found_of (node_up d (suc n) n t.bytes) → Followed d n (t ∷ []) (followed_of i j f i)
+first-followed : (d : Draft) (n : ℕ) (t : Placed) (i j : ℕ) (f : Option ℕ) → i ≡ t.place → f ≡ found_of (node_up d (suc n) n t.bytes) → Followed d n (t ∷ []) (followed_of i j f i)
 unfolding parts all_bytes node_of node_down in_order ◌▸◌
 first-followed d n t i j f e g =
     rw (g, e) (record { lost = bad-one d (use_of_node n (t.bytes ∷ [])) t.place ∙ looked-lost t.place j (node_up d (suc n) n t.bytes) t.place; found = looked-found t.place j (node_up d (suc n) n t.bytes) t.place })
@@ -95,7 +95,7 @@ pub none : (p : Path) → p.lost ≡ false → lost_of p ≡ nowhere
 unfolding lost_of
 none p h = rw (h, lost_of)
 
-next-followed : (d : Draft) (n : ℕ) (t : Placed) (ts : List Placed) (s : Placed) (i j m a : ℕ) (f : NameFound) → bad_mention d (parts n [] (t ∷ ts)) ≡ nowhere → node_of d n (all_bytes (t ∷ ts)) ≡ at m → f ≡ found_of (child_of d m s.bytes) → a ≡ s.place → Followed d n (t ∷ (ts ▸ s)) (followed_of i j f a)
+next-followed : (d : Draft) (n : ℕ) (t : Placed) (ts : List Placed) (s : Placed) (i j m a : ℕ) (f : Option ℕ) → bad_mention d (parts n [] (t ∷ ts)) ≡ nowhere → node_of d n (all_bytes (t ∷ ts)) ≡ at m → f ≡ found_of (child_of d m s.bytes) → a ≡ s.place → Followed d n (t ∷ (ts ▸ s)) (followed_of i j f a)
 unfolding in_order
 next-followed d n t ts s i j m a f o e k pl =
     rw (k, pl)
@@ -108,7 +108,7 @@ next-followed d n t ts s i j m a f o e k pl =
     })
 
 module _ (u : List ℕ) (d : Draft) where
-  pub first_one : (n : ℕ) (p : Path) (f : NameFound) → p.held ≡ 1 → f ≡ found_of (node_up d (suc n) n (piece u p.from p.to)) → FirstPart u d n p (followed_of p.from p.to f p.from)
+  pub first_one : (n : ℕ) (p : Path) (f : Option ℕ) → p.held ≡ 1 → f ≡ found_of (node_up d (suc n) n (piece u p.from p.to)) → FirstPart u d n p (followed_of p.from p.to f p.from)
   unfolding FirstPart PathIs parts followed_of
   first_one n p f h e = (λ z. never p.held z h (λ y. omega arith), onto)
     where
@@ -139,7 +139,7 @@ module _ (u : List ℕ) (d : Draft) where
         };
       }
 
-  pub next-on : (p : Path) (a e : ℕ) (f : NameFound) → p.lost ≡ false → f ≡ found_of (child_of d p.node (piece u a e)) → NextPart u d p a e (followed_of p.from p.to f a)
+  pub next-on : (p : Path) (a e : ℕ) (f : Option ℕ) → p.lost ≡ false → f ≡ found_of (child_of d p.node (piece u a e)) → NextPart u d p a e (followed_of p.from p.to f a)
   unfolding NextPart lost_of followed_of
   next-on p a e f h g n t ts s w nm pl =
       let m : node_of d n (all_bytes (t ∷ ts)) ≡ at p.node = w.followed.found h in
@@ -186,15 +186,15 @@ unfolding unless_of
 unless-false n e = rw e
 
 -- the answer's number is compared where there is one
-pub first-is : (i : ℕ) (f : NameFound) (g : Found) → f ≡ found_of g → f.found ≡ true → eqb i f.place ≡ is_at i g
+pub first-is : (i j : ℕ) (g : Found) → Some j ≡ found_of g → eqb i j ≡ is_at i g
 unfolding found_of is_at
-first-is i f (at j) e h = ap (λ (z : NameFound). eqb i z.place) e
-first-is i f nowhere e h = absurd (let z : ◌≡◌ {A = Bool} false true = ap (λ (z : NameFound). z.found) (sym e) ∙ h in let y : ◌≡◌ {A = ℕ} 0 1 = cc in omega arith)
+first-is i j (at k) e = ap (λ (z : Option ℕ). eqb i (unwrap_or z 0)) e
+first-is i j nowhere e = absurd (let z : ◌≡◌ {A = Bool} true false = ap is_some e in let y : ◌≡◌ {A = ℕ} 0 1 = cc in omega arith)
 
-pub first-none : (i : ℕ) (f : NameFound) (g : Found) → f ≡ found_of g → f.found ≡ false → false ≡ is_at i g
+pub first-none : (i : ℕ) (g : Found) → None ≡ found_of g → false ≡ is_at i g
 unfolding found_of is_at
-first-none i f nowhere e h = refl
-first-none i f (at j) e h = absurd (let z : ◌≡◌ {A = Bool} true false = ap (λ (z : NameFound). z.found) (sym e) ∙ h in let y : ◌≡◌ {A = ℕ} 0 1 = cc in omega arith)
+first-none i nowhere e = refl
+first-none i (at j) e = absurd (let z : ◌≡◌ {A = Bool} false true = ap is_some e in let y : ◌≡◌ {A = ℕ} 0 1 = cc in omega arith)
 
 -- a path stays what it is where the node stays, and none is one anywhere
 pub path-here : (u : List ℕ) (d : Draft) (n m : ℕ) (ts : List Placed) (p : Path) → (HasPath ts → m ≡ n) → PathIs u d n ts p → PathIs u d m ts p

@@ -1,6 +1,7 @@
 -- Laws of the tables' rows.
 use Prim.Native.Nat.{ℕ, zero, suc, ◌+◌, ◌<◌, ◌≤◌, ◌-◌}
 use mathlib.Core.Path.{◌≡◌, refl, ap, ◌∙◌}
+use mathlib.Core.Logic.{◌⊎◌, inl, inr}
 use mathlib.Core.Bool.{Bool, true, false}
 use mathlib.Core.List.{List, [], ◌∷◌}
 use native.Mathlib.Omega.{arith}
@@ -11,6 +12,11 @@ use Rattle.notation.specs.Names.{find_from}
 use Rattle.names.specs.Tale.{Declared}
 use Rattle.names.specs.Seek.{nobody}
 use Rattle.names.specs.Tables.{row_at, rows, Fair}
+
+-- what lies in the text lies nowhere outside it
+pub outside : {a e n : ℕ} → (e < a) ⊎ (n < e) → a ≤ e → e ≤ n → ⊥
+outside (inl h) x y = omega arith
+outside (inr h) x y = omega arith
 
 module _ (f : Declared → Bool) (i : ℕ) (e : Declared) (l : List Declared) where
   pub find-hit : f e ≡ true → find_from i f (e ∷ l) ≡ at i

@@ -16,7 +16,7 @@ use Rattle.notation.specs.Draft.{Draft}
 use Rattle.notation.specs.Hearing.{◌▸◌, draft_of}
 use Rattle.notation.specs.Names.{bad_mention, bad_name}
 use Rattle.names.specs.declared.walk.Walk.{Walk}
-use Rattle.names.specs.declared.answers.NameFound.{NameFound}
+use Rattle.std.specs.Prelude.{Option, is_some}
 use Rattle.names.specs.declared.judge.Path.{Path}
 use Rattle.names.specs.Roles.{Role, role_of, role_number, detail_of, other, number, command, lookup, variable, named, unnamed, opens, shuts, call, assign, read, mention, descend, ask, settle}
 use Rattle.names.specs.Tale as Tale
@@ -239,15 +239,15 @@ module _ (u : List ℕ) (l : List (Said Saying)) (a : Accepted u l) (c o v : ℕ
       ∙ bad-stays (draft_of l) (tell n.said n.tale).mentions g.rest k (bad-so-far ∙ e)
 
   -- a bad one was found
-  pub found-bad : (f : NameFound) → f ≡ found_of (bad_mention (draft_of l) (new_of (role_of n.said.what) n.said.token n.tale)) → f.found ≡ true → f ≡ found_of (bad_name (draft_of l))
+  pub found-bad : (f : Option ℕ) → f ≡ found_of (bad_mention (draft_of l) (new_of (role_of n.said.what) n.said.token n.tale)) → is_some f ≡ true → f ≡ found_of (bad_name (draft_of l))
   unfolding found_of
   found-bad f e z = onto (bad_mention (draft_of l) (new_of (role_of n.said.what) n.said.token n.tale)) refl e z
     where
-      onto : (g : Found) → bad_mention (draft_of l) (new_of (role_of n.said.what) n.said.token n.tale) ≡ g → f ≡ found_of g → f.found ≡ true → f ≡ found_of (bad_name (draft_of l))
+      onto : (g : Found) → bad_mention (draft_of l) (new_of (role_of n.said.what) n.said.token n.tale) ≡ g → f ≡ found_of g → is_some f ≡ true → f ≡ found_of (bad_name (draft_of l))
       onto (at k) x y z = y ∙ ap found_of (sym (bad-at k x))
-      onto nowhere x y z = absurd (let v : ◌≡◌ {A = Bool} false true = ap (λ (i : NameFound). i.found) (sym y) ∙ z in let w : ◌≡◌ {A = ℕ} 0 1 = cc in omega arith)
+      onto nowhere x y z = absurd (let v : ◌≡◌ {A = Bool} false true = ap is_some (sym y) ∙ z in let w : ◌≡◌ {A = ℕ} 0 1 = cc in omega arith)
 
-  pub upright-on : (f : NameFound) (p' : Path) → f ≡ found_of (bad_mention (draft_of l) (new_of (role_of n.said.what) n.said.token n.tale)) → f.found ≡ false → PathIs u (draft_of l) (here_in (tell n.said n.tale)) (tell n.said n.tale).held p' →
+  pub upright-on : (f : Option ℕ) (p' : Path) → f ≡ found_of (bad_mention (draft_of l) (new_of (role_of n.said.what) n.said.token n.tale)) → is_some f ≡ false → PathIs u (draft_of l) (here_in (tell n.said n.tale)) (tell n.said n.tale).held p' →
       Upright u (draft_of l) (count_no w.role 0 c) (count_no w.role 1 o) (count_no w.role 2 v) p' (tell n.said n.tale) n.next
   unfolding tell list_of
   upright-on f p' e z h =
@@ -257,7 +257,7 @@ module _ (u : List ℕ) (l : List (Said Saying)) (a : Accepted u l) (c o v : ℕ
         commands = count-on k w.role c 0 n.said.token n.tale x n.tells.role (omega arith) n.known.commands;
         lookups = count-on k w.role o 1 n.said.token n.tale x n.tells.role (omega arith) n.known.lookups;
         variables = count-on k w.role v 2 n.said.token n.tale x n.tells.role (omega arith) n.known.variables;
-        fine = bad-so-far ∙ found-is _ (ap (λ (y : NameFound). y.found) (sym e) ∙ z);
+        fine = bad-so-far ∙ found-is _ (ap is_some (sym e) ∙ z);
         path = h;
         held = held_after k n.said.token n.tale n.standing n.next x n.goes n.known.held;
       }

@@ -19,7 +19,7 @@ use Rattle.names.specs.Roles.{role_of, role_number, detail_of}
 use Rattle.names.specs.Tale.{Tale, tell}
 use Rattle.names.specs.Order.{Standing, Orderly, onward}
 use Rattle.names.specs.Seek.{Shallow}
-use Rattle.names.specs.Walking.{lists_no, nodes_no, depth_no, end_no, heard_of, ended_of, Holds, Follows, Tells, Bounded, Walked, Started}
+use Rattle.names.specs.Walking.{lists_no, nodes_no, depth_no, end_no, heard_of, Holds, Follows, Tells, Bounded, Walked, Over, Started}
 use Rattle.names.proofs.Ordered.{plans-orderly}
 use Rattle.names.proofs.ToldLaws.{not-silent}
 use Rattle.names.proofs.WalkLaws.{name-by, owner-by, nodes-by, depth-by, holds_by}
@@ -47,17 +47,8 @@ length-lists ls k n m e = onto (eqb k 5) (ltb m 16)
 
 module _ (u os ls : List ℕ) (w : Walk) (d : Cursor) (g : Advanced u os w.cursor d) where
   -- no saying was heard
-  pub stopped : Bounded w → (d.at ≤ w.cursor.at) ⊎ (d.says ≡ 94) → Walked u os ls w ls (ended_of w)
-  unfolding ended_of
-  stopped v s =
-      record {
-        more = λ k x l b q f h. absurd (never k x l b q f s);
-        done = λ b q f. refl;
-        onward = inl refl;
-        bounded = record { place = v.place; nodes = omega arith; depth = omega arith };
-        ordered = omega arith;
-        within = omega arith;
-      }
+  pub stopped : (d.at ≤ w.cursor.at) ⊎ (d.says ≡ 94) → Over u os ls w
+  stopped s = record { none_left = λ k x l b q f. never k x l b q f s }
     where
       never : Tape u os → (x : Said Saying) (l : List (Said Saying)) (b : Tale) (q : Standing) → Follows u ls w b q (x ∷ l) → (d.at ≤ w.cursor.at) ⊎ (d.says ≡ 94) → ⊥
       never k x l b q f (inl e) = let z : w.cursor.at < d.at = (g.more k x l f.hears).2 in omega arith
@@ -98,8 +89,8 @@ module _ (u os ls : List ℕ) (w : Walk) (d : Cursor) (g : Advanced u os w.curso
   walked s v n y =
       record {
         more = λ k x l b q f h. (tells k x l b q f h, elim f.orderly [ onward {t = t} z i o ↦ (t, i, follows k x l b q f t o) ]);
-        done = λ b q f. absurd (v (g.done f.hears));
-        onward = inr s;
+        left = λ b q f. v (g.done f.hears);
+        onward = s;
         bounded = record { place = y; nodes = cond-le (eqb role_heard 3) (omega arith) (cond-le (eqb role_heard 4) (omega arith) (omega arith)); depth = cond-le (eqb role_heard 5) (omega arith) (cond-le (eqb role_heard 6) (omega arith) (omega arith)) };
         ordered = le-cond (eqb role_heard 4) (omega arith) g.ordered;
         within = cond-le (eqb role_heard 4) (omega (arith, g.ordered, g.within)) g.within;
@@ -108,7 +99,3 @@ module _ (u os ls : List ℕ) (w : Walk) (d : Cursor) (g : Advanced u os w.curso
 pub begun : (os : List ℕ) (c : Cursor) → Begun os c → c.at < 18446744073709551616 → Started os (record { cursor = c; role = 15; «from» = 0; to = 0; owner = 0; nodes = 0; depth = 0 })
 unfolding Begun Holds
 begun os c h y = record { follows = λ u ls l r e k. record { hears = h u l e k; orderly = plans-orderly u l e; nodes = refl; depth = refl; room = r; holds = tt }; bounded = record { place = y; nodes = omega arith; depth = omega arith } }
-
--- the walk goes further in the text, as long as it is not over
-pub further : {u os ls : List ℕ} {w : Walk} {ls' : List ℕ} {r : Walk} → Walked u os ls w ls' r → (r.role ≡ 16 → ⊥) → w.cursor.at < r.cursor.at
-further g e = elim g.onward [ inl h ↦ absurd (e h) | inr h ↦ h ]

@@ -1,5 +1,5 @@
 -- What the functions of this crate answer.
-use Rattle.std.specs.Prelude.{ℕ, suc, ◌≤◌, ◌≡◌, true, false, List, length}
+use Rattle.std.specs.Prelude.{ℕ, suc, ◌≤◌, ◌≡◌, List, length, Option, Some, None}
 use Rattle.std.proofs.Math.Option.{some}
 use Rattle.plexil.specs.Lists.{Found, at, nowhere}
 use Rattle.grammar.specs.Table.{Said}
@@ -10,14 +10,13 @@ use Rattle.notation.specs.Draft.{Draft}
 use Rattle.notation.specs.Names.{too_deep}
 use Rattle.notation.specs.Reading.{plan_says}
 use Rattle.recognise.specs.Hears.{piece}
-use Rattle.names.specs.declared.answers.NameFound.{NameFound}
 use Rattle.names.specs.declared.answers.NodeFound.{NodeFound}
 use Rattle.names.specs.Tale.{Declared, Tale, tale_of}
 
 -- a number found, or none
-unfoldable pub found_of : Found → NameFound
-found_of (at i) = record { found = true; place = i }
-found_of nowhere = record { found = false; place = 0 }
+unfoldable pub found_of : Found → Option ℕ
+found_of (at i) = Some i
+found_of nowhere = None
 
 -- the text u says l, and no node of it is past level 16
 pub record Accepted (u : List ℕ) (l : List (Said Saying)) : Type 0 where

@@ -1,5 +1,5 @@
 -- What a saying mentions, and the path that is held.
-use Rattle.std.specs.Prelude.{ℕ, suc, ◌+◌, ◌-◌, ◌≤◌, ◌<◌, ◌≡◌, ◌⊎◌, Bool, true, false, not, cond, eqb, List, [], ◌∷◌, length}
+use Rattle.std.specs.Prelude.{ℕ, suc, ◌+◌, ◌-◌, ◌≤◌, ◌<◌, ◌≡◌, ◌⊎◌, Bool, true, false, Option, unwrap_or, is_none, cond, eqb, List, [], ◌∷◌, length}
 use Rattle.plexil.specs.Lists.{Found, at, nowhere}
 use Rattle.grammar.specs.Spelling.{Token, Placed}
 use Rattle.grammar.specs.Table.{Said}
@@ -9,7 +9,6 @@ use Rattle.notation.specs.Hearing.{◌▸◌, draft_of, all_bytes}
 use Rattle.notation.specs.Names.{child_of, node_up, node_of, bad_mention}
 use Rattle.recognise.specs.Hears.{piece}
 use Rattle.names.specs.declared.walk.Walk.{Walk}
-use Rattle.names.specs.declared.answers.NameFound.{NameFound}
 use Rattle.names.specs.declared.judge.Path.{Path}
 use Rattle.names.specs.Roles.{Role, role_of}
 use Rattle.names.specs.Tale.{Tale, list_of, here_in, parts, tell, tell_all}
@@ -89,8 +88,8 @@ unless_of true n = nowhere
 unless_of false n = at n
 
 -- the path after a name has been looked for
-unfoldable pub followed_of : ℕ → ℕ → NameFound → ℕ → Path
-followed_of i j f n = record { held = 2; «from» = i; to = j; node = f.place; lost = not f.found; stray = n }
+unfoldable pub followed_of : ℕ → ℕ → Option ℕ → ℕ → Path
+followed_of i j f n = record { held = 2; «from» = i; to = j; node = unwrap_or f 0; lost = is_none f; stray = n }
 
 -- a name alone, or none
 unfoldable pub held_from : ℕ → ℕ → ℕ → Path
@@ -110,7 +109,7 @@ pub record Hearing (u : List ℕ) (l : List (Said Saying)) (w : Walk) (b : Tale)
   pub nodes : w.nodes ≡ length (tell x b).nodes
 
 -- the answer is the first of what is mentioned that is not in order
-unfoldable pub Judged : List ℕ → List (Said Saying) → Walk → ℕ → Path → NameFound → Type 0
+unfoldable pub Judged : List ℕ → List (Said Saying) → Walk → ℕ → Path → Option ℕ → Type 0
 Judged u l w i p r = (b : Tale) (x : Said Saying) → Hearing u l w b x → (w.role < 4 → i ≡ length (list_of w.role b)) → PathIs u (draft_of l) (here_in b) b.held p →
     r ≡ found_of (bad_mention (draft_of l) (new_of (role_of x.what) x.token b))
 

@@ -59,10 +59,6 @@ role_number settle = 13
 role_number number = 14
 role_number other = 15
 
--- the number for the end of the text
-abbrev pub ended : ℕ
-ended = 16
-
 -- "Kinds: 0 Bool, 1 Int (64-bit signed), 2 Real"
 unfoldable pub kind_number : Kind → ℕ
 kind_number boolean = 0

@@ -2,7 +2,11 @@
 use Rattle.std.specs.Prelude.{ℕ, zero, suc, ◌<◌, ◌≤◌, ◌≡◌, true, cond, List, [], ◌∷◌, eqb, length, get_or}
 use Rattle.recognise.specs.Hears.{piece}
 use Rattle.recognise.specs.Tape.{Tape}
+use Rattle.grammar.specs.Table.{Said}
+use Rattle.notation.specs.Sayings.{Saying}
 use Rattle.names.specs.declared.table.Told.{Told}
+use Rattle.names.specs.declared.table.Tables.{Tables}
+use Rattle.names.specs.Answers.{tale_said}
 use Rattle.names.specs.Judging.{count_no}
 use Rattle.names.specs.Tale.{Declared, Tale, list_of}
 
@@ -40,6 +44,10 @@ pub record TabledSort (u : List ℕ) (b : Tale) (fs ts os : List ℕ) (t : Told)
 pub record Ready (u : List ℕ) (b : Tale) (fs ts os : List ℕ) (t : Told) : Type 0 where
   pub tabled : t.whole ≡ true → (k : ℕ) → k < 4 → TabledSort u b fs ts os t k
   pub tape : Tape u os
+
+-- the lent tables are those of their text, which says l
+abbrev pub Prepared : Tables → List (Said Saying) → Type 0
+Prepared t l = Ready t.text.now (tale_said l) t.from.now t.to.now t.owner.now t.told
 
 -- the counts with one more of the sort
 unfoldable pub more_of : Told → ℕ → Told

@@ -1,5 +1,5 @@
 -- A walk through a text: the code's counts and lists stand for the tale of what has been heard.
-use Rattle.std.specs.Prelude.{ℕ, ◌+◌, ◌<◌, ◌≤◌, ◌-◌, ◌≡◌, ◌⊎◌, cond, List, [], ◌∷◌, eqb, ltb, length, get_or, set}
+use Rattle.std.specs.Prelude.{ℕ, ◌+◌, ◌<◌, ◌≤◌, ◌-◌, ◌≡◌, cond, List, [], ◌∷◌, eqb, ltb, length, get_or, set, Option, MatchOption}
 use Rattle.std.proofs.Math.Option.{some}
 use Rattle.grammar.specs.Spelling.{Token}
 use Rattle.grammar.specs.Table.{Said}
@@ -11,7 +11,7 @@ use Rattle.recognise.specs.Codes.{say_of}
 use Rattle.recognise.specs.Hears.{Hears, piece}
 use Rattle.recognise.specs.Tape.{Tape}
 use Rattle.names.specs.declared.walk.Walk.{Walk}
-use Rattle.names.specs.Roles.{Role, role_of, role_number, ended}
+use Rattle.names.specs.Roles.{Role, role_of, role_number}
 use Rattle.names.specs.Tale.{Tale, untold, tell, top, here_in}
 use Rattle.names.specs.Order.{Standing, declaring, after, Orderly}
 use Rattle.names.specs.Seek.{Shallow}
@@ -43,9 +43,6 @@ unfoldable pub heard_of : List ℕ → Walk → Cursor → Walk
 heard_of ls w d =
     let k = role_number (role_of (say_of d.says)) in
     record { cursor = d; role = k; «from» = d.from; to = end_no k d.from d.to; owner = owner_no ls k w.nodes w.depth; nodes = nodes_no k w.nodes; depth = depth_no k w.depth }
-
-unfoldable pub ended_of : Walk → Walk
-ended_of w = record { cursor = w.cursor; role = 16; «from» = 0; to = 0; owner = 0; nodes = 0; depth = 0 }
 
 -- ---- what that stands for
 -- the array holds the lists s, innermost first, where they are of the outermost 16
@@ -114,15 +111,22 @@ pub record Bounded (w : Walk) : Type 0 where
   pub nodes : w.nodes ≤ w.cursor.at
   pub depth : w.depth ≤ w.cursor.at
 
--- the walk w has gone on to r
+-- the walk w has gone on to r, and hears one saying more
 pub record Walked (u os : List ℕ) (ls : List ℕ) (w : Walk) (ls' : List ℕ) (r : Walk) : Type 0 where
   pub more : Tape u os → (x : Said Saying) (l : List (Said Saying)) (b : Tale) (q : Standing) → Follows u ls w b q (x ∷ l) → Shallow (tell x b).levels →
       Tells u r b x × ((t : Standing) × (after (role_of x.what) q ≡ some t) × Follows u ls' r (tell x b) t l)
-  pub done : (b : Tale) (q : Standing) → Follows u ls w b q [] → r.role ≡ ended
-  pub onward : (r.role ≡ ended) ⊎ (w.cursor.at < r.cursor.at)
+  pub left : (b : Tale) (q : Standing) → Follows u ls w b q [] → ⊥
+  pub onward : w.cursor.at < r.cursor.at
   pub bounded : Bounded r
   pub ordered : r.from ≤ r.to
   pub within : r.to ≤ length u
+
+-- the walk w hears no saying more
+pub record Over (u os : List ℕ) (ls : List ℕ) (w : Walk) : Type 0 where
+  pub none_left : Tape u os → (x : Said Saying) (l : List (Said Saying)) (b : Tale) (q : Standing) → Follows u ls w b q (x ∷ l) → ⊥
+
+abbrev pub Stepped : List ℕ → List ℕ → List ℕ → Walk → List ℕ → Option Walk → Type 0
+Stepped u os ls w ls' o = MatchOption o (Over u os ls w) (λ r. Walked u os ls w ls' r)
 
 -- at the beginning it hears what the text says
 pub record Started (os : List ℕ) (r : Walk) : Type 0 where
@@ -131,5 +135,5 @@ pub record Started (os : List ℕ) (r : Walk) : Type 0 where
 
 -- opens every definition of this file
 unfoldable pub opened : Unit {0}
-unfolding owner_at owner_no lists_no nodes_no depth_no end_no sort_no heard_of ended_of Holds name_by owner_by
+unfolding owner_at owner_no lists_no nodes_no depth_no end_no sort_no heard_of Holds name_by owner_by
 opened = tt

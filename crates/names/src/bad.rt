@@ -5,12 +5,11 @@ ghost use Rattle.notation.specs.Sayings.{Saying};
 ghost use Rattle.notation.specs.Hearing.{draft_of};
 ghost use Rattle.notation.specs.Names.{bad_name};
 ghost use Rattle.names.specs.Answers.{Accepted, found_of, tale_said};
-ghost use Rattle.names.specs.Tables.{Ready};
+ghost use Rattle.names.specs.Tables.{Prepared};
 ghost use Rattle.names.specs.Judging.{index_no, count_no};
 
-use super::answers::{NameFound, found_nowhere};
-use super::judge::{held_from, judge, path_after};
-use super::table::Told;
+use super::judge::held_from;
+use super::table::Tables;
 use super::walk::{here, start, step};
 
 // The number of what a saying of the role declares.
@@ -40,35 +39,27 @@ pub fn counted(role: u8, sort: u8, n: usize) -> usize
     n
 }
 
-pub fn bad_name<'a>(
-    text: &'a [u8],
-    from: &'a [usize; 704],
-    to: &'a [usize; 704],
-    owner: &'a [usize; 10525],
-    told: Told,
-) -> NameFound
-    ensures { (l : List (Said Saying)) → Accepted text.now l → Ready text.now (tale_said l) from.now to.now owner.now told → result ≡ found_of (bad_name (draft_of l)) }
+pub fn bad_name<'a>(tables: Tables<'a>) -> Option<usize>
+    ensures { (l : List (Said Saying)) → Accepted tables.entry.text.now l → Prepared tables.entry l → result ≡ found_of (bad_name (draft_of l)) }
 {
     let mut lists = [0usize; 16];
-    let mut w = start(owner);
+    let mut w = start(tables.owner);
     let mut p = held_from(0, 0, 0);
     let mut commands: usize = 0;
     let mut lookups: usize = 0;
     let mut variables: usize = 0;
-    loop {
-        w = step(text, owner, &mut lists, w);
+    while let Some(next) = step(tables.text, tables.owner, &mut lists, w) {
+        w = next;
         let role = w.role;
-        if role == 16 {
-            return found_nowhere();
-        }
         let i = index_of(role, commands, lookups, variables, w.nodes);
-        let bad = judge(text, from, to, owner, told, w, i, p);
-        if bad.found {
+        let bad = tables.judge(w, i, p);
+        if bad.is_some() {
             return bad;
         }
-        p = path_after(text, from, to, owner, told, w, p);
+        p = tables.path_after(w, p);
         commands = counted(role, 0, commands);
         lookups = counted(role, 1, lookups);
         variables = counted(role, 2, variables);
     }
+    None
 }

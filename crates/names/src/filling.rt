@@ -9,7 +9,7 @@ ghost use Rattle.names.specs.Tables.{more_of, Roomy, Filled};
 use super::bad::counted;
 use super::in_text::sort_of;
 use super::table::{Told, base_of, count_of, room_of};
-use super::walk::{start, step};
+use super::walk::{Walk, start, step};
 
 // One more of the sort.
 fn one_more(t: Told, sort: u8) -> Told
@@ -31,16 +31,14 @@ fn put(
     to: &mut [usize; 704],
     owner: &mut [usize; 10525],
     j: usize,
-    a: usize,
-    e: usize,
-    o: usize,
+    w: Walk,
 )
     requires { j < 704 }
-    ensures { (from.new ≡ set from.old j a) × (to.new ≡ set to.old j e) × (owner.new ≡ set owner.old j o) }
+    ensures { (from.new ≡ set from.old j w.from) × (to.new ≡ set to.old j w.to) × (owner.new ≡ set owner.old j w.owner) }
 {
-    from[j] = a;
-    to[j] = e;
-    owner[j] = o;
+    from[j] = w.from;
+    to[j] = w.to;
+    owner[j] = w.owner;
 }
 
 // A declaration for which there is no row leaves the tables unused.
@@ -61,13 +59,9 @@ pub fn fill(
         variables: 0,
         nodes: 0,
     };
-    loop {
-        w = step(text, owner, &mut lists, w);
-        let role = w.role;
-        if role == 16 {
-            return t;
-        }
-        let sort = sort_of(role);
+    while let Some(next) = step(text, owner, &mut lists, w) {
+        w = next;
+        let sort = sort_of(w.role);
         if sort < 4 {
             let n = count_of(t, sort);
             if n >= room_of(sort) {
@@ -79,12 +73,9 @@ pub fn fill(
                     nodes: 0,
                 };
             }
-            let j = base_of(sort) + n;
-            let a = w.from;
-            let e = w.to;
-            let o = w.owner;
-            put(from, to, owner, j, a, e, o);
+            put(from, to, owner, base_of(sort) + n, w);
             t = one_more(t, sort);
         }
     }
+    t
 }

@@ -1,26 +1,24 @@
 // Names sought in the text itself, from its beginning: no table is needed, and no count is too large.
-ghost use Rattle.std.specs.Prelude.{◌≡◌, List, ◌<◌, ◌≤◌, length};
+ghost use Rattle.std.specs.Prelude.{◌≡◌, List, ◌<◌, unwrap_or};
 ghost use Rattle.grammar.specs.Table.{Said};
 ghost use Rattle.notation.specs.Sayings.{Saying};
-ghost use Rattle.recognise.specs.Hears.{piece};
 ghost use Rattle.recognise.specs.Tape.{Tape};
 ghost use Rattle.names.specs.Seek.{is_called, seek, node_in};
 ghost use Rattle.names.specs.Walking.{sort_no};
 ghost use Rattle.names.specs.Answers.{Accepted, found_of, tale_said, NodeIs, Lies};
 
-use super::answers::{NameFound, NodeFound, found_at, found_nowhere};
+use super::answers::{NOBODY, NodeFound};
 use super::walk::{here, start, step};
 use words::same;
 
-// A declaration of this owner whose name stands from `from` to `to` is of the owner m and the name x.
-pub fn is_called(text: &[u8], from: usize, to: usize, owner: usize, m: usize, x: &[u8]) -> bool
-    requires { (from ≤ to) × (to ≤ length text.now) }
-    ensures { result ≡ is_called m x.now (record { name = piece text.now from to; owner = owner }) }
+// A declaration of this owner and name is of the owner m and the name x.
+pub fn is_called(name: &[u8], owner: usize, m: usize, x: &[u8]) -> bool
+    ensures { result ≡ is_called m x.now (record { name = name.now; owner = owner }) }
 {
     if owner != m {
         return false;
     }
-    same(&text[from..to], x)
+    same(name, x)
 }
 
 // The sort of what a saying of the role declares.
@@ -37,29 +35,23 @@ pub fn find<'a>(
     sort: u8,
     m: usize,
     x: &'a [u8],
-) -> NameFound
+) -> Option<usize>
     requires { sort < 4 }
-    ensures { ((l : List (Said Saying)) → Accepted text.now l → Tape text.now owner.now → result ≡ found_of (seek sort m x.now (tale_said l))) × (result.place < 18446744073709551615) }
+    ensures { ((l : List (Said Saying)) → Accepted text.now l → Tape text.now owner.now → result ≡ found_of (seek sort m x.now (tale_said l))) × (unwrap_or result 0 < 18446744073709551615) }
 {
     let mut lists = [0usize; 16];
     let mut w = start(owner);
     let mut count: usize = 0;
-    loop {
-        w = step(text, owner, &mut lists, w);
-        let role = w.role;
-        if role == 16 {
-            return found_nowhere();
-        }
-        let from = w.from;
-        let to = w.to;
-        let mine = w.owner;
-        if sort_of(role) == sort {
-            if is_called(text, from, to, mine, m, x) {
-                return found_at(count);
+    while let Some(next) = step(text, owner, &mut lists, w) {
+        w = next;
+        if sort_of(w.role) == sort {
+            if is_called(&text[w.from..w.to], w.owner, m, x) {
+                return Some(count);
             }
             count += 1;
         }
     }
+    None
 }
 
 // The node of a number.
@@ -68,28 +60,17 @@ pub fn node<'a>(text: &'a [u8], owner: &'a [usize; 10525], n: usize) -> NodeFoun
 {
     let mut lists = [0usize; 16];
     let mut w = start(owner);
-    loop {
-        w = step(text, owner, &mut lists, w);
-        let role = w.role;
-        if role == 16 {
-            return NodeFound {
-                from: 0,
-                to: 0,
-                owner: 0,
-            };
-        }
-        let from = w.from;
-        let to = w.to;
-        let mine = w.owner;
-        let nodes = w.nodes;
-        if sort_of(role) == 3 {
-            if here(nodes) == n {
+    while let Some(next) = step(text, owner, &mut lists, w) {
+        w = next;
+        if sort_of(w.role) == 3 {
+            if here(w.nodes) == n {
                 return NodeFound {
-                    from,
-                    to,
-                    owner: mine,
+                    from: w.from,
+                    to: w.to,
+                    owner: w.owner,
                 };
             }
         }
     }
+    NOBODY
 }

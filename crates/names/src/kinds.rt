@@ -23,13 +23,9 @@ pub fn fill_kinds<'a>(text: &'a [u8], owner: &'a [usize; 10525], kind: &mut [usi
     let mut lists = [0usize; 16];
     let mut w = start(owner);
     let mut n: usize = 0;
-    loop {
-        w = step(text, owner, &mut lists, w);
-        let role = w.role;
-        if role == 16 {
-            return;
-        }
-        if role == 2 {
+    while let Some(next) = step(text, owner, &mut lists, w) {
+        w = next;
+        if w.role == 2 {
             if n < 128 {
                 let c = w.cursor;
                 let j = 320 + n;

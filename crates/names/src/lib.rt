@@ -14,10 +14,9 @@ mod seek;
 mod table;
 mod walk;
 
-pub use answers::{NameFound, NodeFound};
+pub use answers::NodeFound;
 pub use bad::bad_name;
 pub use filling::fill;
 pub use kinds::fill_kinds;
 pub use numbers::command_number;
-pub use resolve::{child_of, command_of, lookup_of, node_up, variable_of};
-pub use table::Told;
+pub use table::{Tables, Told};

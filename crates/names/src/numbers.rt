@@ -42,17 +42,12 @@ pub fn command_number<'a>(text: &'a [u8], owner: &'a [usize; 10525], i: usize) -
     let mut w = start(owner);
     let mut n: usize = 0;
     let mut number: usize = 0;
-    loop {
-        w = step(text, owner, &mut lists, w);
-        let role = w.role;
-        if role == 16 {
-            return number;
-        }
-        n = counted(role, 0, n);
-        if tells_number(role, n, i) {
-            let from = w.from;
-            let to = w.to;
-            number = number_at(text, from, to);
+    while let Some(next) = step(text, owner, &mut lists, w) {
+        w = next;
+        n = counted(w.role, 0, n);
+        if tells_number(w.role, n, i) {
+            number = number_at(text, w.from, w.to);
         }
     }
+    number
 }

@@ -1,67 +1,45 @@
 // Names sought: in the tables where they have the whole text, else in the text itself.
-ghost use Rattle.std.specs.Prelude.{◌≡◌, List, ◌<◌};
+ghost use Rattle.std.specs.Prelude.{◌≡◌, List, ◌<◌, unwrap_or};
 ghost use Rattle.grammar.specs.Table.{Said};
 ghost use Rattle.notation.specs.Sayings.{Saying};
 ghost use Rattle.names.specs.Seek.{seek, node_in};
 ghost use Rattle.names.specs.Answers.{Accepted, found_of, tale_said, NodeIs, Lies};
-ghost use Rattle.names.specs.Tables.{Ready};
+ghost use Rattle.names.specs.Tables.{Prepared};
 
-use super::answers::{NameFound, NodeFound, found_nowhere};
-use super::table::Told;
-use super::{in_text, table};
+use super::answers::{NOBODY, NodeFound};
+use super::in_text;
+use super::table::{Tables, base_of, count_of, room_of};
 
-// The first declaration of the sort, the owner m and the name x.
-pub fn find<'a>(
-    text: &'a [u8],
-    from: &'a [usize; 704],
-    to: &'a [usize; 704],
-    owner: &'a [usize; 10525],
-    told: Told,
-    sort: u8,
-    m: usize,
-    x: &'a [u8],
-) -> NameFound
-    requires { sort < 4 }
-    ensures { ((l : List (Said Saying)) → Accepted text.now l → Ready text.now (tale_said l) from.now to.now owner.now told → result ≡ found_of (seek sort m x.now (tale_said l))) × (result.place < 18446744073709551615) }
-{
-    if told.whole {
-        let count = table::count_of(told, sort);
-        if count > table::room_of(sort) {
-            return found_nowhere();
+impl<'a> Tables<'a> {
+    // The first declaration of the sort, the owner m and the name x.
+    pub fn find(self, sort: u8, m: usize, x: &[u8]) -> Option<usize>
+        requires { sort < 4 }
+        ensures { ((l : List (Said Saying)) → Accepted self.entry.text.now l → Prepared self.entry l → result ≡ found_of (seek sort m x.now (tale_said l))) × (unwrap_or result 0 < 18446744073709551615) }
+    {
+        if self.told.whole {
+            let count = count_of(self.told, sort);
+            if count > room_of(sort) {
+                return None;
+            }
+            let base = base_of(sort);
+            return self.first_row(base, count, m, x);
         }
-        let base = table::base_of(sort);
-        return table::find(text, from, to, owner, base, count, m, x);
+        in_text::find(self.text, self.owner, sort, m, x)
     }
-    in_text::find(text, owner, sort, m, x)
-}
 
-// The node of a number.
-pub fn node<'a>(
-    text: &'a [u8],
-    from: &'a [usize; 704],
-    to: &'a [usize; 704],
-    owner: &'a [usize; 10525],
-    told: Told,
-    n: usize,
-) -> NodeFound
-    ensures { ((l : List (Said Saying)) → Accepted text.now l → Ready text.now (tale_said l) from.now to.now owner.now told → NodeIs text.now (node_in (tale_said l) n) result) × Lies text.now result }
-{
-    if told.whole {
-        if n >= told.nodes {
-            return NodeFound {
-                from: 0,
-                to: 0,
-                owner: 0,
-            };
+    // The node of a number.
+    pub fn node(self, n: usize) -> NodeFound
+        ensures { ((l : List (Said Saying)) → Accepted self.entry.text.now l → Prepared self.entry l → NodeIs self.entry.text.now (node_in (tale_said l) n) result) × Lies self.entry.text.now result }
+    {
+        if self.told.whole {
+            if n >= self.told.nodes {
+                return NOBODY;
+            }
+            if n >= 256 {
+                return NOBODY;
+            }
+            return self.row(448 + n);
         }
-        if n >= 256 {
-            return NodeFound {
-                from: 0,
-                to: 0,
-                owner: 0,
-            };
-        }
-        return table::row(text, from, to, owner, 448 + n);
+        in_text::node(self.text, self.owner, n)
     }
-    in_text::node(text, owner, n)
 }

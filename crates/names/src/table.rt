@@ -1,11 +1,11 @@
 // Tables of declarations, for texts within the limits: in each array the rows of the commands, the lookups, the variables and the nodes, one sort after another.
-ghost use Rattle.std.specs.Prelude.{◌≡◌, ◌<◌, ◌≤◌, ◌+◌};
+ghost use Rattle.std.specs.Prelude.{◌≡◌, ◌<◌, ◌≤◌, ◌+◌, unwrap_or};
 ghost use Rattle.notation.specs.Names.{find_from};
 ghost use Rattle.names.specs.Seek.{is_called};
 ghost use Rattle.names.specs.Answers.{found_of, Lies, NodeIs};
 ghost use Rattle.names.specs.Tables.{base_of, room_of, count_of, row_at, rows, Fair};
 
-use super::answers::{NameFound, NodeFound, found_at, found_nowhere};
+use super::answers::{NOBODY, NodeFound};
 use super::in_text::is_called;
 
 // How many rows each sort has; `whole` where the tables have every declaration of the text.
@@ -16,6 +16,16 @@ pub struct Told {
     pub lookups: usize,
     pub variables: usize,
     pub nodes: usize,
+}
+
+// A text and the tables of its declarations: row by row where the name begins, where it ends, and its owner. Behind the owners lies the text's tape.
+#[derive(Clone, Copy)]
+pub struct Tables<'a> {
+    pub text: &'a [u8],
+    pub from: &'a [usize; 704],
+    pub to: &'a [usize; 704],
+    pub owner: &'a [usize; 10525],
+    pub told: Told,
 }
 
 pub fn base_of(sort: u8) -> usize
@@ -63,70 +73,36 @@ pub fn count_of(told: Told, sort: u8) -> usize
     told.nodes
 }
 
-// Among `count` rows from place `base` on the first of the owner m and the name x.
-pub fn find<'a>(
-    text: &'a [u8],
-    from: &'a [usize; 704],
-    to: &'a [usize; 704],
-    owner: &'a [usize; 10525],
-    base: usize,
-    count: usize,
-    m: usize,
-    x: &'a [u8],
-) -> NameFound
-    requires { base + count ≤ 704 }
-    ensures { (Fair text.now from.now to.now base count → result ≡ found_of (find_from 0 (is_called m x.now) (rows text.now from.now to.now owner.now base count))) × (result.place < 18446744073709551615) }
-{
-    let mut i = 0;
-    while i < count {
-        let j = base + i;
-        let a = from[j];
-        let e = to[j];
-        let o = owner[j];
-        if a > e {
-            return found_nowhere();
+impl<'a> Tables<'a> {
+    // Among `count` rows from place `base` on the first of the owner m and the name x.
+    pub fn first_row(self, base: usize, count: usize, m: usize, x: &[u8]) -> Option<usize>
+        requires { base + count ≤ 704 }
+        ensures { (Fair self.entry.text.now self.entry.from.now self.entry.to.now base count → result ≡ found_of (find_from 0 (is_called m x.now) (rows self.entry.text.now self.entry.from.now self.entry.to.now self.entry.owner.now base count))) × (unwrap_or result 0 < 18446744073709551615) }
+    {
+        for i in 0..count {
+            let j = base + i;
+            let name = self.text.get(self.from[j]..self.to[j])?;
+            if is_called(name, self.owner[j], m, x) {
+                return Some(i);
+            }
         }
-        if e > text.len() {
-            return found_nowhere();
-        }
-        if is_called(text, a, e, o, m, x) {
-            return found_at(i);
-        }
-        i += 1;
+        None
     }
-    found_nowhere()
-}
 
-// The row at place j, where its name lies in the text.
-pub fn row<'a>(
-    text: &'a [u8],
-    from: &'a [usize; 704],
-    to: &'a [usize; 704],
-    owner: &'a [usize; 10525],
-    j: usize,
-) -> NodeFound
-    requires { j < 704 }
-    ensures { (Fair text.now from.now to.now j 1 → NodeIs text.now (row_at text.now from.now to.now owner.now j) result) × Lies text.now result }
-{
-    let a = from[j];
-    let e = to[j];
-    if a > e {
-        return NodeFound {
-            from: 0,
-            to: 0,
-            owner: 0,
-        };
-    }
-    if e > text.len() {
-        return NodeFound {
-            from: 0,
-            to: 0,
-            owner: 0,
-        };
-    }
-    NodeFound {
-        from: a,
-        to: e,
-        owner: owner[j],
+    // The row at place j, where its name lies in the text.
+    pub fn row(self, j: usize) -> NodeFound
+        requires { j < 704 }
+        ensures { (Fair self.entry.text.now self.entry.from.now self.entry.to.now j 1 → NodeIs self.entry.text.now (row_at self.entry.text.now self.entry.from.now self.entry.to.now self.entry.owner.now j) result) × Lies self.entry.text.now result }
+    {
+        let from = self.from[j];
+        let to = self.to[j];
+        match self.text.get(from..to) {
+            Some(_) => NodeFound {
+                from,
+                to,
+                owner: self.owner[j],
+            },
+            None => NOBODY,
+        }
     }
 }

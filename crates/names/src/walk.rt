@@ -1,6 +1,6 @@
 // A walk through a text from saying to saying, with what a name needs to be told of: the nodes begun and the lists open.
 ghost use Rattle.std.specs.Prelude.{◌≡◌, ◌+◌, ◌<◌, ◌-◌};
-ghost use Rattle.names.specs.Walking.{end_no, owner_at, owner_no, lists_no, nodes_no, depth_no, ended_of, Bounded, Walked, Started};
+ghost use Rattle.names.specs.Walking.{end_no, owner_at, owner_no, lists_no, nodes_no, depth_no, Bounded, Stepped, Started};
 
 use super::roles::role_of;
 use recognise::Cursor;
@@ -114,21 +114,26 @@ pub fn start(owner: &[usize; 10525]) -> Walk
     }
 }
 
-// To the next saying.
-pub fn step<'a>(text: &'a [u8], owner: &'a [usize; 10525], lists: &mut [usize; 16], w: Walk) -> Walk
+// To the next saying, where there is one.
+pub fn step<'a>(
+    text: &'a [u8],
+    owner: &'a [usize; 10525],
+    lists: &mut [usize; 16],
+    w: Walk,
+) -> Option<Walk>
     requires { Bounded w }
-    ensures { Walked text.now owner.now lists.old w lists.new result }
+    ensures { Stepped text.now owner.now lists.old w lists.new result }
 {
     let c = w.cursor;
     let before = c.at;
     let d = recognise::next(text, owner, c);
     let at = d.at;
     if at <= before {
-        return ended(w);
+        return None;
     }
     let says = d.says;
     if says == 94 {
-        return ended(w);
+        return None;
     }
     let role = role_of(says);
     let nodes = w.nodes;
@@ -137,7 +142,7 @@ pub fn step<'a>(text: &'a [u8], owner: &'a [usize; 10525], lists: &mut [usize; 1
     let to = end_of(role, from, d.to);
     let owner = owner_of(lists, role, nodes, depth);
     keep(lists, role, nodes, depth);
-    Walk {
+    Some(Walk {
         cursor: d,
         role,
         from,
@@ -145,21 +150,5 @@ pub fn step<'a>(text: &'a [u8], owner: &'a [usize; 10525], lists: &mut [usize; 1
         owner,
         nodes: nodes_after(role, nodes),
         depth: depth_after(role, depth),
-    }
-}
-
-// A walk that is over.
-fn ended(w: Walk) -> Walk
-    ensures { result ≡ ended_of w }
-{
-    let c = w.cursor;
-    Walk {
-        cursor: c,
-        role: 16,
-        from: 0,
-        to: 0,
-        owner: 0,
-        nodes: 0,
-        depth: 0,
-    }
+    })
 }

@@ -1,4 +1,3 @@
-mod Copying
 mod Handed
 mod Stages
 pub mod Foretold

@@ -16,7 +16,7 @@ use Rattle.notation.specs.Mapping.{within_counts, image_length}
 use Rattle.notation.specs.Reading.{plan_says}
 use Rattle.recognise.specs.declared.Recognised.{Recognised}
 use Rattle.recognise.specs.Recognised.{place_of, accepted_as, recognised_by, recognised_of}
-use Rattle.names.specs.declared.answers.NameFound.{NameFound}
+use Rattle.std.specs.Prelude.{unwrap_or, is_some, Some, None}
 use Rattle.names.specs.Answers.{found_of, Accepted}
 use Rattle.read.specs.declared.reply.ReadReply.{ReadReply}
 use Rattle.read.specs.Reply.{refused_reply, made_reply}
@@ -33,21 +33,21 @@ pub refused-not : (r : ReadReply) (n k : ℕ) → r ≡ refused_reply n k → 0 
 refused-not r n k e h z = omega (arith, ap (λ (x : ReadReply). x.number) e)
 
 -- ---- 42, 3 and 43
-module _ (d : Draft) (room : ℕ) (s : Recognised) (seen : s ≡ accepted_as d) (f : NameFound) (found : f ≡ found_of (bad_name d)) (r : ReadReply) where
-  pub name-refused : f.found ≡ true → r ≡ refused_reply 42 f.place → r ≡ named_by (bad_name d) d room
+module _ (d : Draft) (room : ℕ) (s : Recognised) (seen : s ≡ accepted_as d) (r : ReadReply) where
+  pub name-refused : (k : ℕ) → Some k ≡ found_of (bad_name d) → r ≡ refused_reply 42 k → r ≡ named_by (bad_name d) d room
   unfolding found_of named_by
-  name-refused h e = by (bad_name d) refl
+  name-refused k h e = by (bad_name d) refl
     where
       by : (b : Found) → bad_name d ≡ b → r ≡ named_by (bad_name d) d room
-      by (at k) q = e ∙ ap (λ (x : NameFound). refused_reply 42 x.place) (found ∙ ap found_of q) ∙ sym (ap (λ b. named_by b d room) q)
-      by nowhere q = absurd (true≢false (sym h ∙ ap (λ (x : NameFound). x.found) (found ∙ ap found_of q)))
+      by (at j) q = e ∙ ap (λ x. refused_reply 42 (unwrap_or x 0)) (h ∙ ap found_of q) ∙ sym (ap (λ b. named_by b d room) q)
+      by nowhere q = absurd (true≢false (ap is_some (h ∙ ap found_of q)))
 
-  no-bad-name : f.found ≡ false → bad_name d ≡ nowhere
+  no-bad-name : None ≡ found_of (bad_name d) → bad_name d ≡ nowhere
   unfolding found_of
   no-bad-name h = by (bad_name d) refl
     where
       by : (b : Found) → bad_name d ≡ b → bad_name d ≡ nowhere
-      by (at k) q = absurd (false≢true (sym h ∙ ap (λ (x : NameFound). x.found) (found ∙ ap found_of q)))
+      by (at k) q = absurd (false≢true (ap is_some (h ∙ ap found_of q)))
       by nowhere q = q
 
   fits-is : fits s ≡ within_counts d
@@ -58,15 +58,15 @@ module _ (d : Draft) (room : ℕ) (s : Recognised) (seen : s ≡ accepted_as d) 
   unfolding length_of image_length accepted_as
   length-is = rw seen refl
 
-  pub count-refused : f.found ≡ false → fits s ≡ false → r ≡ refused_reply 3 0 → r ≡ named_by (bad_name d) d room
+  pub count-refused : None ≡ found_of (bad_name d) → fits s ≡ false → r ≡ refused_reply 3 0 → r ≡ named_by (bad_name d) d room
   unfolding named_by measured_by when◌then◌else◌
   count-refused h g e = rw (no-bad-name h, sym fits-is ∙ g) e
 
-  pub room-refused : f.found ≡ false → fits s ≡ true → (n : ℕ) → n ≡ length_of s → room < n → r ≡ refused_reply 43 0 → r ≡ named_by (bad_name d) d room
+  pub room-refused : None ≡ found_of (bad_name d) → fits s ≡ true → (n : ℕ) → n ≡ length_of s → room < n → r ≡ refused_reply 43 0 → r ≡ named_by (bad_name d) d room
   unfolding named_by measured_by when◌then◌else◌
   room-refused h g n en l e = rw (no-bad-name h, sym fits-is ∙ g, lt-ltb room (image_length d) (rw (en ∙ length-is) at l)) e
 
-  pub all-passed : f.found ≡ false → fits s ≡ true → (n : ℕ) → n ≡ length_of s → n ≤ room → r ≡ made_reply n → r ≡ named_by (bad_name d) d room
+  pub all-passed : None ≡ found_of (bad_name d) → fits s ≡ true → (n : ℕ) → n ≡ length_of s → n ≤ room → r ≡ made_reply n → r ≡ named_by (bad_name d) d room
   unfolding named_by measured_by when◌then◌else◌
   all-passed h g n en l e = rw (no-bad-name h, sym fits-is ∙ g, le-ltb room (image_length d) (rw (en ∙ length-is) at l)) (e ∙ ap made_reply (en ∙ length-is))
 

@@ -13,11 +13,7 @@ fn copy(from: &[u8], n: usize, image: &mut [u8])
     requires n_in_bounds_2 { n ≤ length image.old }
     ensures { image.new ≡ take n from.now ++ drop n image.old }
 {
-    let mut i = 0;
-    while i < n {
-        image[i] = from[i];
-        i += 1;
-    }
+    image[..n].copy_from_slice(&from[..n]);
 }
 
 // The first n bytes of the scratch array are the image.

@@ -6,6 +6,7 @@ ghost use Rattle.read.specs.Reply.{reply_of};
 use super::delivery::delivered;
 use super::reply::ReadReply;
 use super::surveying::survey;
+use names::Tables;
 
 pub fn read(text: &[u8], image: &mut [u8]) -> ReadReply
     ensures { (result ≡ reply_of (read_reply text.now image.old)) × (image.new ≡ (read_reply text.now image.old).image) }
@@ -19,14 +20,13 @@ pub fn read(text: &[u8], image: &mut [u8]) -> ReadReply
         return reply;
     }
     let mut scratch = [0u8; 41108];
-    build::build(
+    let names = Tables {
         text,
-        &from,
-        &to,
-        &owner,
-        found.told,
-        found.seen,
-        &mut scratch,
-    );
+        from: &from,
+        to: &to,
+        owner: &owner,
+        told: found.told,
+    };
+    build::build(names, found.seen, &mut scratch);
     delivered(&scratch, reply.made, image)
 }

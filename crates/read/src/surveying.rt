@@ -5,14 +5,14 @@ ghost use Rattle.notation.specs.Sayings.{Saying};
 ghost use Rattle.notation.specs.Hearing.{draft_of};
 ghost use Rattle.notation.specs.Names.{bad_name};
 ghost use Rattle.recognise.specs.Recognised.{accepted_as};
-ghost use Rattle.names.specs.Answers.{Accepted, tale_said};
-ghost use Rattle.names.specs.Tables.{Ready};
+ghost use Rattle.names.specs.Answers.{Accepted};
+ghost use Rattle.names.specs.Tables.{Prepared};
 ghost use Rattle.read.specs.Reply.{refused_reply};
 ghost use Rattle.read.specs.Survey.{named_by, Surveyed};
 
 use super::limits::{length_of, over_limits};
 use super::reply::{ReadReply, made, refused};
-use names::Told;
+use names::{Tables, Told};
 use recognise::Recognised;
 
 // What a look over a text has found: the reply so far, its counts, and the counts of its tables.
@@ -42,21 +42,12 @@ fn early(number: u32, place: usize, seen: Recognised) -> Overview
 }
 
 // 42, 3 and 43, for a text of the notation within the levels.
-fn named<'a>(
-    text: &'a [u8],
-    from: &'a [usize; 704],
-    to: &'a [usize; 704],
-    owner: &'a [usize; 10525],
-    told: Told,
-    seen: Recognised,
-    room: usize,
-) -> ReadReply
-    ensures { (l : List (Said Saying)) → Accepted text.now l → seen ≡ accepted_as (draft_of l) → Ready text.now (tale_said l) from.now to.now owner.now told
+fn named<'a>(tables: Tables<'a>, seen: Recognised, room: usize) -> ReadReply
+    ensures { (l : List (Said Saying)) → Accepted tables.entry.text.now l → seen ≡ accepted_as (draft_of l) → Prepared tables.entry l
         → result ≡ named_by (bad_name (draft_of l)) (draft_of l) room }
 {
-    let bad = names::bad_name(text, from, to, owner, told);
-    if bad.found {
-        return refused(42, bad.place);
+    if let Some(place) = names::bad_name(tables) {
+        return refused(42, place);
     }
     if over_limits(seen) {
         return refused(3, 0);
@@ -88,6 +79,13 @@ pub(crate) fn survey(
         return early(41, seen.place, seen);
     }
     let told = names::fill(text, from, to, owner);
-    let reply = named(text, from, to, owner, told, seen, room);
+    let tables = Tables {
+        text,
+        from,
+        to,
+        owner,
+        told,
+    };
+    let reply = named(tables, seen, room);
     Overview { reply, seen, told }
 }

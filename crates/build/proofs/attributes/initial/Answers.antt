@@ -5,10 +5,8 @@ use Rattle.build.proofs.AttributeViews.{initial-code}
 use Rattle.build.proofs.AttributeLaws.{begun}
 use Rattle.build.proofs.attributes.initial.Goals as goal
 
--- src/attributes.rt:80:9
 pub returns-then-says-gt30 : goal.returns-then-says-gt30
 returns-then-says-gt30 c w d heard code x = absurd (omega (arith, initial-code w.what x))
 
--- src/attributes.rt:75:1
 pub returns : goal.returns
 returns c = begun _ _ _ _ refl c.word.ensures

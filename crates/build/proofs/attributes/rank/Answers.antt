@@ -3,7 +3,6 @@ use Rattle.recognise.specs.Hears.{piece}
 use Rattle.build.proofs.AttributeLaws.{ranked}
 use Rattle.build.proofs.attributes.rank.Goals as goal
 
--- src/attributes.rt:60:1
-pub returns : goal.returns
+pub returns-in-Some : goal.returns-in-Some
 unfolding piece
-returns c = ranked _ _ _ c.number_of.ensures
+returns-in-Some c = ranked _ _ _ (rw c.in-Some.ensures.lookup.0.2 at c.number_of.ensures)

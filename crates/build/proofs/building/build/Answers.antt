@@ -5,26 +5,21 @@ use Rattle.recognise.specs.Recognised.{accepted_as}
 use Rattle.build.proofs.BuildLaws.{limited, built-all}
 use Rattle.build.proofs.building.build.Goals as goal
 
--- src/building.rt:82:9
 pub returns-then-nodes-gt256 : goal.returns-then-nodes-gt256
 unfolding accepted_as
 returns-then-nodes-gt256 c l a e filled w room = let f = limited _ w in absurd (omega (arith, ap (λ r. r.nodes) e, f.nodes))
 
--- src/building.rt:85:9
 pub returns-then-entries-gt2048 : goal.returns-then-entries-gt2048
 unfolding accepted_as
 returns-then-entries-gt2048 c l a e filled w room = let f = limited _ w in absurd (omega (arith, ap (λ r. r.entries) e, f.entries))
 
--- src/building.rt:88:9
 pub returns-then-variables-gt128 : goal.returns-then-variables-gt128
 unfolding accepted_as
 returns-then-variables-gt128 c l a e filled w room = let f = limited _ w in absurd (omega (arith, ap (λ r. r.variables) e, f.variables))
 
--- src/building.rt:91:9
 pub returns-then-lookups-gt64 : goal.returns-then-lookups-gt64
 unfolding accepted_as
 returns-then-lookups-gt64 c l a e filled w room = let f = limited _ w in absurd (omega (arith, ap (λ r. r.lookups) e, f.lookups))
 
--- src/building.rt:66:1
 pub returns : goal.returns
-returns c = built-all _ _ _ _ _ _ _ _ _ _ _ _ _ c.counted.ensures refl refl refl c.put_header.ensures c.sections.ensures
+returns c = built-all _ _ _ _ _ _ _ _ _ _ _ _ _ c.counted-told.ensures refl refl refl c.put_header.ensures c.sections.ensures

@@ -3,7 +3,6 @@ use mathlib.Core.Path.{refl}
 use Rattle.build.specs.Building.{counted_told}
 use Rattle.build.proofs.building.counted.Goals as goal
 
--- src/building.rt:14:1
 pub returns : goal.returns
 unfolding counted_told
 returns c = refl

@@ -1,4 +1,4 @@
-use Prim.Native.Nat.{◌-◌, ◌≤◌}
+use Prim.Native.Nat.{◌≤◌}
 use mathlib.Core.Path.{◌≡◌}
 use lib.ListN.{length}
 use Rattle.notation.specs.Draft.{Draft}
@@ -6,9 +6,6 @@ use Rattle.recognise.specs.Tape.{Tape}
 use Rattle.build.proofs.DeclarationLaws.{Declaring}
 use Rattle.build.proofs.declarations.declarations.Given as goal
 
-abbrev pub invariant-loop-turns : goal.invariant-loop-turns
-invariant-loop-turns l = (l.commands ≤ l.turns) × (l.lookups ≤ l.turns)
-    × ((whole : Draft) → Tape l.text l.owner → length whole.lookups ≤ 64 → l.base ≤ 40980 → length l.initial.image ≡ 41108 → Declaring l.text whole l.base l.initial.image l.initial.kind 0 l.initial.at 0 0 l.initial.image l.initial.kind → Declaring l.text whole l.base l.initial.image l.initial.kind l.turns l.at l.commands l.lookups l.image l.kind)
-
-abbrev pub decreases-loop-turns : goal.decreases-loop-turns
-decreases-loop-turns l = length l.text - l.turns
+abbrev pub invariant-loop : goal.invariant-loop
+invariant-loop l = (l.commands ≤ l.counter) × (l.lookups ≤ l.counter)
+    × ((whole : Draft) → Tape l.names.text.now l.names.owner.now → length whole.lookups ≤ 64 → l.base ≤ 40980 → length l.initial.image ≡ 41108 → Declaring l.names.text.now whole l.base l.initial.image l.initial.kind 0 l.initial.at 0 0 l.initial.image l.initial.kind → Declaring l.names.text.now whole l.base l.initial.image l.initial.kind l.counter l.at l.commands l.lookups l.image l.kind)

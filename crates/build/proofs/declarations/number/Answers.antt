@@ -5,19 +5,9 @@ use Rattle.build.proofs.DeclarationLaws.{number-heard}
 use Rattle.build.proofs.RecordLaws.{command-recorded, command-passed}
 use Rattle.build.proofs.declarations.number.Goals as goal
 
--- src/declarations.rt:15:9
-pub returns-then-to-from : goal.returns-then-to-from
-returns-then-to-from c base under old image cs ls d w t e h says n = absurd (omega (arith, h.ordered))
-
--- src/declarations.rt:18:9
-pub returns-then-text-to : goal.returns-then-text-to
-returns-then-text-to c base under old image cs ls d w t e h says n = absurd (omega (arith, h.inside))
-
--- src/declarations.rt:9:1
 pub returns-then-i-lt256 : goal.returns-then-i-lt256
 unfolding piece
-returns-then-i-lt256 c base under old image cs ls d w t e h says n = command-recorded base under old image _ cs ls t d _ _ e (omega arith) (number-heard _ _ w h says _ c.number_of.ensures ∙ sym n)
+returns-then-i-lt256 c base under old image cs ls d w t e h says n = command-recorded base under old image _ cs ls t d _ _ e (omega arith) (number-heard _ _ w h says _ (rw c.in-Some.ensures.lookup.0.2 at c.number_of.ensures) ∙ sym n)
 
--- src/declarations.rt:9:1
 pub returns-else-i-lt256 : goal.returns-else-i-lt256
 returns-else-i-lt256 c base under old image cs ls d w t e h says n = command-passed base under old image _ cs ls t d _ e (omega arith)

@@ -4,14 +4,11 @@ use Rattle.plexil.specs.Lists.{put}
 use Rattle.build.proofs.EntryLaws.{stands-more}
 use Rattle.build.proofs.entries.emit.Goals as goal
 
--- src/entries.rt:6:1
-pub returns-then-base-le6164 : goal.returns-then-base-le6164
-returns-then-base-le6164 c s es e room low few t q = stands-more s _ es room low _ _ _ e t few (λ f. c.put_entry.ensures f ∙ ap (put _ _) (sym q))
+pub returns : goal.returns
+returns c s es e room low few t q = stands-more s _ es room low _ _ _ e t few (λ f. c.put_entry.ensures f ∙ ap (put _ _) (sym q))
 
--- src/entries.rt:6:1
-pub returns-else-base-le6164 : goal.returns-else-base-le6164
-returns-else-base-le6164 c s es e room low few t q = absurd (omega arith)
+pub returns-then-base-gt6164 : goal.returns-then-base-gt6164
+returns-then-base-gt6164 c s es e room low few t q = absurd (omega arith)
 
--- src/entries.rt:6:1
-pub returns-else-n-lt2048 : goal.returns-else-n-lt2048
-returns-else-n-lt2048 c s es e room low few t q = absurd (omega (arith, t.counted))
+pub returns-then-n-ge2048 : goal.returns-then-n-ge2048
+returns-then-n-ge2048 c s es e room low few t q = absurd (omega (arith, t.counted))

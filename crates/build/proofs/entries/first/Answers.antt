@@ -2,14 +2,11 @@ use native.Mathlib.Omega.{arith}
 use Rattle.build.proofs.Numbers.{swapped, unswapped}
 use Rattle.build.proofs.entries.first.Goals as goal
 
--- src/entries.rt:65:1
 pub returns-then-says-eq86 : goal.returns-then-says-eq86
 returns-then-says-eq86 c o e = swapped o _ _ _ e (omega arith) (omega arith)
 
--- src/entries.rt:65:1
 pub returns-then-says-eq87 : goal.returns-then-says-eq87
 returns-then-says-eq87 c o e = swapped o _ _ _ e (omega arith) (omega arith)
 
--- src/entries.rt:65:1
 pub returns-else-says-eq87 : goal.returns-else-says-eq87
 returns-else-says-eq87 c o e = unswapped o _ _ _ e (λ q. omega arith) (λ q. omega arith)

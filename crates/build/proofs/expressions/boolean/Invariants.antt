@@ -3,14 +3,11 @@ use Prim.Native.Nat.{ℕ, ◌-◌, ◌≤◌}
 use mathlib.Core.Path.{◌≡◌}
 use mathlib.Core.List.{[]}
 use lib.ListN.{length}
-use Rattle.build.specs.Known.{Known, tables}
+use Rattle.build.specs.Known.{Known, tables_of}
 use Rattle.build.specs.Standing.{Scene, Fair}
 use Rattle.build.specs.Pendings.{places, DueBy}
 use Rattle.build.proofs.expressions.boolean.Given as goal
 
-abbrev pub invariant-loop-turns : goal.invariant-loop-turns
-invariant-loop-turns l = (q : Scene) (size : ℕ) → length l.initial.pending ≡ places → Known l.text q.whole (tables l.from l.to l.owner l.kind l.told) → Fair q l.node l.base → q.whole.pending ≡ [] → size ≤ l.left → DueBy l.text q l.base l.initial.pending l.initial.s.top size l.initial.s.at l.initial.s.entries l.initial.image
-    → DueBy l.text q l.base l.pending l.s.top (size - l.turns) l.s.at l.s.entries l.image × (length l.pending ≡ places)
-
-abbrev pub decreases-loop-turns : goal.decreases-loop-turns
-decreases-loop-turns l = l.left - l.turns
+abbrev pub invariant-loop : goal.invariant-loop
+invariant-loop l = (q : Scene) (size : ℕ) → length l.initial.pending ≡ places → Known l.source.names.text.now q.whole (tables_of l.source) → Fair q l.node l.source.base → q.whole.pending ≡ [] → size ≤ l.left → DueBy l.source.names.text.now q l.source.base l.initial.pending l.initial.s.top size l.initial.s.at l.initial.s.entries l.initial.image
+    → DueBy l.source.names.text.now q l.source.base l.pending l.s.top (size - l.counter) l.s.at l.s.entries l.image × (length l.pending ≡ places)

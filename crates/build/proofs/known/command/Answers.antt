@@ -6,8 +6,8 @@ use Rattle.build.proofs.known.command.Goals as goal
 
 pub returns-then-i-lt256 : goal.returns-then-i-lt256
 unfolding piece
-returns-then-i-lt256 c d k h = means-command _ d _ k _ _ _ c.command_of-f.ensures c.if-i-lt256.true refl
+returns-then-i-lt256 c d k h = means-command _ d _ k _ _ _ (rw c.in-Some.ensures.lookup.0.2 at c.command_of-f.ensures) (rw c.unwrap_or-i.ensures at c.if-i-lt256.true) (rw c.unwrap_or-i.ensures refl)
 
 pub returns : goal.returns
 unfolding piece
-returns c d k h = means-later _ d _ k _ _ _ c.command_of-f.ensures c.command_number.ensures
+returns c d k h = means-later _ d _ k _ _ _ (rw c.in-Some.ensures.lookup.0.2 at c.command_of-f.ensures) (rw c.unwrap_or-i.ensures at c.command_number.ensures)

@@ -3,10 +3,8 @@ use native.Mathlib.Omega.{arith}
 use Rattle.build.proofs.LayLaws.{lay-initial, lay-nothing}
 use Rattle.build.proofs.laying.set_initial.Goals as goal
 
--- src/laying.rt:59:9
 pub returns-then-n-eq0 : goal.returns-then-n-eq0
 returns-then-n-eq0 c whole ns es vs f e g a = lay-nothing whole ns es vs _ f a _ (omega arith)
 
--- src/laying.rt:55:1
 pub returns : goal.returns
 returns c whole ns es vs f e g a = lay-initial whole ns es vs _ f a _ _ _ _ e g (omega arith) c.little.ensures

@@ -5,24 +5,24 @@ use native.Mathlib.Omega.{arith}
 use Rattle.build.proofs.NodeLaws.{keeps_same, keeps-all, done-in, list-opens, list-ends, node-begins, list-goes, listing-on, some_left}
 use Rattle.build.proofs.nodes.+list_node.Goals as goal
 
-pub list-loop-turns-init : goal.list-loop-turns-init
-list-loop-turns-init t c whole d parent size k room site h m l = (d, listing-on (omega arith) l, keeps_same d.nodes, room)
+pub list-loop-init : goal.list-loop-init
+list-loop-init t c whole d parent size k room site h m l = (d, listing-on (omega arith) l, keeps_same d.nodes, room)
 
 pub list-returns-then-at-eq9 : goal.list-returns-then-at-eq9
 list-returns-then-at-eq9 t c whole d parent size k room site h m l =
-    let i = c.loop-turns.invariant whole d parent size k room site h m l in
+    let i = c.loop.invariant whole d parent size k room site h m l in
     (done-in i.2 (omega arith) (list-ends _ whole i.0 parent _ _ k _ _ i.1 _ (c.next-at.ensures site.known.ready.tape) c.if-at-eq9.true), i.3)
 
-pub list-loop-turns-preserved : goal.list-loop-turns-preserved
-list-loop-turns-preserved t c whole d parent size k room site h m l =
-    let i = c.loop-turns.invariant whole d parent size k room site h m l in
+pub list-loop-preserved : goal.list-loop-preserved
+list-loop-preserved t c whole d parent size k room site h m l =
+    let i = c.loop.invariant whole d parent size k room site h m l in
     let o = node-begins _ whole i.0 parent _ _ k _ _ i.1 _ (c.next-at.ensures site.known.ready.tape) c.if-at-eq9.false in
     let y = c.node-s.ensures whole i.0.nodes _ o.0 i.3 site (omega arith) (omega arith) o.1 in
     let x = y.0 in
     (x.draft, listing-on (omega arith) (list-goes i.1 o.2 x), keeps-all d.nodes i.0.nodes x.draft.nodes i.2 x.keeps, y.1)
 
 pub list-returns : goal.list-returns
-list-returns t c whole d parent size k room site h m l = let i = c.loop-turns.invariant whole d parent size k room site h m l in absurd (omega (arith, some_left i.1))
+list-returns t c whole d parent size k room site h m l = let i = c.loop.invariant whole d parent size k room site h m l in absurd (omega (arith, some_left i.1))
 
 pub node-returns-then-at-ne8 : goal.node-returns-then-at-ne8
 node-returns-then-at-ne8 t c whole before size k room site h m o =

@@ -4,7 +4,7 @@ use mathlib.Core.Path.{◌≡◌}
 use lib.ListN.{length}
 use Rattle.notation.specs.Phrases.{Sayings}
 use Rattle.notation.specs.Draft.{Draft}
-use Rattle.build.specs.Known.{tables}
+use Rattle.build.specs.Known.{tables_of}
 use Rattle.build.specs.Pendings.{places}
 use Rattle.build.specs.Laying.{Site, Keeps}
 use Rattle.build.specs.Telling.{Listing}
@@ -16,10 +16,7 @@ decreases-list l = l.left
 abbrev pub decreases-node : goal.decreases-node
 decreases-node l = l.left
 
-abbrev pub invariant-list-loop-turns : goal.invariant-list-loop-turns
-invariant-list-loop-turns l =
-    (whole d : Draft) (parent size : ℕ) (k : Sayings) → length l.initial.pending ≡ places → Site l.text whole (tables l.from l.to l.owner l.kind l.told) l.base l.vbase → size ≤ l.left → l.left ≤ length l.text → Listing l.text whole d l.above parent size k l.initial.s l.initial.image
-    → (e : Draft) × Listing l.text whole e l.above parent (size - l.turns) k l.s l.image × Keeps d.nodes e.nodes × (length l.pending ≡ places)
-
-abbrev pub decreases-list-loop-turns : goal.decreases-list-loop-turns
-decreases-list-loop-turns l = l.left - l.turns
+abbrev pub invariant-list-loop : goal.invariant-list-loop
+invariant-list-loop l =
+    (whole d : Draft) (parent size : ℕ) (k : Sayings) → length l.initial.pending ≡ places → Site l.source.names.text.now whole (tables_of l.source) l.source.base l.source.vbase → size ≤ l.left → l.left ≤ length l.source.names.text.now → Listing l.source.names.text.now whole d l.above parent size k l.initial.s l.initial.image
+    → (e : Draft) × Listing l.source.names.text.now whole e l.above parent (size - l.counter) k l.s l.image × Keeps d.nodes e.nodes × (length l.pending ≡ places)

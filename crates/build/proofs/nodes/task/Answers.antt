@@ -3,10 +3,8 @@ use native.Mathlib.Omega.{arith}
 use Rattle.build.proofs.NodeLaws.{done-command, done-assignment}
 use Rattle.build.proofs.nodes.task.Goals as goal
 
--- src/nodes.rt:48:9
 pub returns-then-at-eq10 : goal.returns-then-at-eq10
 returns-then-at-eq10 c whole before size k room site n m f g t = (done-command _ whole before _ size k _ _ _ t _ _ _ _ _ _ _ site n (omega arith) c.command-what.ensures c.add_node-n.ensures, room)
 
--- src/nodes.rt:26:1
 pub returns : goal.returns
 returns c whole before size k room site n m f g t = done-assignment _ whole before _ size k _ _ _ t _ _ _ _ _ _ _ _ _ _ _ room site n m f c.if-at-eq10.false g _ c.variable-v.ensures c.expression-e.ensures c.last.ensures c.add_node-n-2.ensures

@@ -1,6 +1,5 @@
 use Rattle.build.proofs.PathLaws.{codes-are}
 use Rattle.build.proofs.paths.ask_code.Goals as goal
 
--- src/paths.rt:115:1
 pub returns : goal.returns
 returns c h m = codes-are _ h m

@@ -1,6 +1,5 @@
 use Rattle.build.proofs.PathLaws.{nots-are}
 use Rattle.build.proofs.paths.ask_not.Goals as goal
 
--- src/paths.rt:127:1
 pub returns : goal.returns
 returns c h m = nots-are _ h m

@@ -1,6 +1,5 @@
 use Rattle.build.proofs.PathLaws.{ops-are}
 use Rattle.build.proofs.paths.ask_op.Goals as goal
 
--- src/paths.rt:103:1
 pub returns : goal.returns
 returns c h m = ops-are _ h m

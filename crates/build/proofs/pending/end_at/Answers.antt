@@ -2,6 +2,5 @@
 use native.Mathlib.Omega.{arith}
 use Rattle.build.proofs.pending.end_at.Goals as goal
 
--- src/pending.rt:164:9
 pub returns-then-t-gt2048 : goal.returns-then-t-gt2048
 returns-then-t-gt2048 c h = absurd (omega arith)

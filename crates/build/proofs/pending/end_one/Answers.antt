@@ -3,10 +3,8 @@ use native.Mathlib.Omega.{arith}
 use Rattle.build.proofs.UnwindLaws.{emits-last}
 use Rattle.build.proofs.pending.end_one.Goals as goal
 
--- src/pending.rt:80:9
 pub returns-then-says-eq79 : goal.returns-then-says-eq79
 returns-then-says-eq79 c = (λ e. emits-last _ _ _ _ _ _ c.last.ensures c.emit.ensures, λ f. absurd (f (omega arith)))
 
--- src/pending.rt:76:1
 pub returns : goal.returns
 returns c = (λ e. absurd (omega arith), λ f. c.end_operator.ensures)

@@ -8,9 +8,6 @@ use Rattle.build.specs.Standing.{Scene, Fair}
 use Rattle.build.specs.Pendings.{places, PastBy}
 use Rattle.build.proofs.pending.follow.Given as goal
 
-abbrev pub invariant-loop-turns : goal.invariant-loop-turns
-invariant-loop-turns l = Tape l.text l.owner → (s : Scene) (node size : ℕ) → length l.initial.pending ≡ places → Fair s node l.base → s.whole.pending ≡ [] → size ≤ l.left → PastBy l.text s l.base l.initial.pending l.initial.top size l.initial.at l.initial.n l.initial.image
-    → PastBy l.text s l.base l.pending l.top (size - l.turns) l.at l.n l.image × (l.initial.n ≤ l.n) × (length l.pending ≡ places)
-
-abbrev pub decreases-loop-turns : goal.decreases-loop-turns
-decreases-loop-turns l = l.left - l.turns
+abbrev pub invariant-loop : goal.invariant-loop
+invariant-loop l = Tape l.source.names.text.now l.source.names.owner.now → (s : Scene) (node size : ℕ) → length l.initial.pending ≡ places → Fair s node l.source.base → s.whole.pending ≡ [] → size ≤ l.left → PastBy l.source.names.text.now s l.source.base l.initial.pending l.initial.top size l.initial.at l.initial.n l.initial.image
+    → PastBy l.source.names.text.now s l.source.base l.pending l.top (size - l.counter) l.at l.n l.image × (l.initial.n ≤ l.n) × (length l.pending ≡ places)

@@ -4,10 +4,8 @@ use native.Mathlib.Omega.{arith}
 use borrow.Author.Tests.{eqb-true, eqb-false}
 use Rattle.build.proofs.pending.is_prefix.Goals as goal
 
--- src/pending.rt:90:9
 pub returns-then-says-eq91 : goal.returns-then-says-eq91
 returns-then-says-eq91 c = (λ e. absurd (true≢false e), λ e f. absurd (f (omega arith)))
 
--- src/pending.rt:86:1
 pub returns : goal.returns
 returns c = (λ e. (λ z. absurd (omega arith), eqb-false _ _ e), λ e f. eqb-true _ _ e)

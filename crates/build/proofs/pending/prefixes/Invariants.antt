@@ -8,9 +8,6 @@ use Rattle.build.specs.Standing.{Scene, Fair}
 use Rattle.build.specs.Pendings.{places, MetBy}
 use Rattle.build.proofs.pending.prefixes.Given as goal
 
-abbrev pub invariant-loop-turns : goal.invariant-loop-turns
-invariant-loop-turns l = Tape l.text l.owner → (s : Scene) (node base size count : ℕ) (image : List ℕ) → length l.initial.pending ≡ places → Fair s node base → s.whole.pending ≡ [] → size ≤ l.left → MetBy l.text s base l.initial.pending l.initial.up size l.initial.at count image
-    → MetBy l.text s base l.pending l.up (size - l.turns) l.at count image × (length l.pending ≡ places)
-
-abbrev pub decreases-loop-turns : goal.decreases-loop-turns
-decreases-loop-turns l = l.left - l.turns
+abbrev pub invariant-loop : goal.invariant-loop
+invariant-loop l = Tape l.names.text.now l.names.owner.now → (s : Scene) (node base size count : ℕ) (image : List ℕ) → length l.initial.pending ≡ places → Fair s node base → s.whole.pending ≡ [] → size ≤ l.left → MetBy l.names.text.now s base l.initial.pending l.initial.up size l.initial.at count image
+    → MetBy l.names.text.now s base l.pending l.up (size - l.counter) l.at count image × (length l.pending ≡ places)

@@ -2,6 +2,5 @@
 use native.Mathlib.Omega.{arith}
 use Rattle.build.proofs.pending.push.Goals as goal
 
--- src/pending.rt:30:9
 pub returns-then-top-ge2048 : goal.returns-then-top-ge2048
 returns-then-top-ge2048 c = λ e h. absurd (omega arith)

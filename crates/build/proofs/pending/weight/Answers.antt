@@ -4,6 +4,5 @@ use native.Mathlib.Omega.{arith}
 use Rattle.build.proofs.Numbers.{operator-range}
 use Rattle.build.proofs.pending.weight.Goals as goal
 
--- src/pending.rt:70:9
 pub returns-then-says-eq79 : goal.returns-then-says-eq79
 returns-then-says-eq79 c = record { tells = λ o e. absurd (omega (arith, operator-range o)); not = λ e. refl }

@@ -2,7 +2,6 @@ use Rattle.build.specs.Hearsay.{AllApt}
 use Rattle.build.proofs.Codes.{heard-code}
 use Rattle.build.proofs.steps.next.Goals as goal
 
--- src/steps.rt:19:1
 pub returns : goal.returns
 unfolding AllApt
 returns c k = record {

@@ -7,6 +7,3 @@ use Rattle.build.proofs.write.little.Given as goal
 
 abbrev pub invariant-loop-i : goal.invariant-loop-i
 invariant-loop-i l = (l.i ≤ l.k) × (length l.image ≡ length l.initial.image) × (length l.initial.image ≡ 41108 → put l.image (l.at + l.i) (bytes (l.k - l.i) l.m) ≡ put l.initial.image l.at (bytes l.k l.n))
-
-abbrev pub decreases-loop-i : goal.decreases-loop-i
-decreases-loop-i l = l.k - l.i

@@ -1,7 +1,6 @@
 use Rattle.build.specs.Standing.{header}
 use Rattle.build.proofs.write.put_header.Goals as goal
 
--- src/write.rt:91:1
 pub returns : goal.returns
 unfolding header
 returns c e = c.words.ensures e

@@ -7,10 +7,9 @@ use Rattle.plexil.specs.Assemble.{bytes, words16}
 use Rattle.build.proofs.Puts.{put_next, words_size, node-record}
 use Rattle.build.proofs.write.put_node.Goals as goal
 
--- src/write.rt:78:1
 pub returns : goal.returns
 unfolding bytes
-returns c e = let x = c.args in
+returns c e = let x = c.args.r in
     let g = words16 x.given.now in
     let n : length g ≡ 14 = omega (arith, words_size x.given.now) in
     let one = c.little.ensures e in

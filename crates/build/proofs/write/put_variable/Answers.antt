@@ -5,7 +5,6 @@ use Rattle.plexil.specs.Assemble.{bytes, words16, variable}
 use Rattle.build.proofs.Puts.{put_next}
 use Rattle.build.proofs.write.put_variable.Goals as goal
 
--- src/write.rt:46:1
 pub returns : goal.returns
 unfolding bytes words16 variable
 returns c e = let x = c.args in

@@ -1,4 +1,5 @@
 -- `names::bad::bad_name` meets its contract. The invariant: what has been told is counted, and each name of it is in order.
+use Rattle.names.proofs.GoingUp.{none-is}
 use mathlib.Core.Path.{refl, ap, sym, ◌∙◌}
 use native.Mathlib.Omega.{arith}
 use Rattle.notation.specs.Hearing.{draft_of}
@@ -6,13 +7,12 @@ use Rattle.names.specs.Answers.{found_of}
 use Rattle.names.specs.Judging as Judging
 use Rattle.names.specs.Judging.{PathIn}
 use Rattle.names.proofs.Halfway.{all_told, newly, halfway-start, onwards}
-use Rattle.names.proofs.Walks.{further}
 use Rattle.names.proofs.Upright.{nothing-bad, newly-hearing, newly-index, newly-path, newly-here, found-bad, upright-on, all-fine, count-le}
 use Rattle.names.proofs.bad.bad_name.Goals as goal
 
-pub loop-told-init : goal.loop-told-init
+pub loop-next-init : goal.loop-next-init
 unfolding Judging.held_from
-loop-told-init c = (
+loop-next-init c = (
   c.start-w.ensures.bounded,
   omega arith,
   omega arith,
@@ -21,44 +21,44 @@ loop-told-init c = (
   λ l a r. halfway-start _ _ _ c.start-w.result c.start-w.ensures refl l a r.tape (rw c.held_from-p.ensures (nothing-bad _ (draft_of l))),
 )
 
-pub step-w-requires : goal.step-w-requires
-step-w-requires c = c.loop-told.invariant.0
+pub step-requires : goal.step-requires
+step-requires c = c.loop-next.invariant.0
 
-pub returns-then-role-eq16 : goal.returns-then-role-eq16
-returns-then-role-eq16 c = λ l a r. c.found_nowhere.ensures ∙ ap found_of (sym (all-fine _ l a _ _ _ _ _ (all_told _ _ _ _ _ _ c.step-w.ensures l a r.tape c.if-role-eq16.true (c.loop-told.invariant.5 l a r)).1))
+pub returns : goal.returns
+returns c = λ l a r. none-is ∙ ap found_of (sym (all-fine _ l a _ _ _ _ _ (all_told _ _ _ _ l a r.tape c.in_default.ensures (c.loop-next.invariant.5 l a r)).1))
 
 pub judge-bad-requires : goal.judge-bad-requires
-judge-bad-requires c = (record { ordered = c.step-w.ensures.ordered; within = c.step-w.ensures.within; small = omega (arith, c.step-w.ensures.bounded.nodes, c.step-w.ensures.bounded.place) }, c.loop-told.invariant.4)
+judge-bad-requires c = (record { ordered = c.in-Some.ensures.ordered; within = c.in-Some.ensures.within; small = omega (arith, c.in-Some.ensures.bounded.nodes, c.in-Some.ensures.bounded.place) }, c.loop-next.invariant.4)
 
-pub returns-then-bad : goal.returns-then-bad
+pub returns-then-is_some : goal.returns-then-is_some
 unfolding Judging.Judged
-returns-then-bad c = λ l a r. let n = newly _ _ _ _ _ _ c.step-w.ensures l a r.tape c.if-role-eq16.false (c.loop-told.invariant.5 l a r) in found-bad _ l a _ _ _ _ n _ (c.judge-bad.ensures l a r n.tale n.said (newly-hearing _ l a _ _ _ _ n) (λ h. c.index_of-i.ensures ∙ newly-index _ l a _ _ _ _ n h) n.known.path) c.if-bad.true
+returns-then-is_some c = λ l a r. let n = newly _ _ _ _ l a r.tape c.in-Some.ensures (c.loop-next.invariant.5 l a r) in found-bad _ l a _ _ _ _ n _ (c.judge-bad.ensures l a r n.tale n.said (newly-hearing _ l a _ _ _ _ n) (λ h. c.index_of-i.ensures ∙ newly-index _ l a _ _ _ _ n h) n.known.path) (sym c.is_some.ensures ∙ c.if-is_some.true)
 
 pub path_after-p-requires : goal.path_after-p-requires
-path_after-p-requires c = (record { ordered = c.step-w.ensures.ordered; within = c.step-w.ensures.within; small = omega (arith, c.step-w.ensures.bounded.nodes, c.step-w.ensures.bounded.place) }, c.loop-told.invariant.4)
+path_after-p-requires c = (record { ordered = c.in-Some.ensures.ordered; within = c.in-Some.ensures.within; small = omega (arith, c.in-Some.ensures.bounded.nodes, c.in-Some.ensures.bounded.place) }, c.loop-next.invariant.4)
 
 pub counted-commands-requires : goal.counted-commands-requires
-counted-commands-requires c = omega (arith, further c.step-w.ensures c.if-role-eq16.false, c.step-w.ensures.bounded.place, c.loop-told.invariant.1)
+counted-commands-requires c = omega (arith, c.in-Some.ensures.onward, c.in-Some.ensures.bounded.place, c.loop-next.invariant.1)
 
 pub counted-lookups-requires : goal.counted-lookups-requires
-counted-lookups-requires c = omega (arith, further c.step-w.ensures c.if-role-eq16.false, c.step-w.ensures.bounded.place, c.loop-told.invariant.2)
+counted-lookups-requires c = omega (arith, c.in-Some.ensures.onward, c.in-Some.ensures.bounded.place, c.loop-next.invariant.2)
 
 pub counted-variables-requires : goal.counted-variables-requires
-counted-variables-requires c = omega (arith, further c.step-w.ensures c.if-role-eq16.false, c.step-w.ensures.bounded.place, c.loop-told.invariant.3)
+counted-variables-requires c = omega (arith, c.in-Some.ensures.onward, c.in-Some.ensures.bounded.place, c.loop-next.invariant.3)
 
-pub loop-told-smaller : goal.loop-told-smaller
-loop-told-smaller c = omega (arith, further c.step-w.ensures c.if-role-eq16.false, c.loop-told.invariant.0.place)
+pub loop-next-smaller : goal.loop-next-smaller
+loop-next-smaller c = omega (arith, c.in-Some.ensures.onward, c.loop-next.invariant.0.place)
 
-pub loop-told-preserved : goal.loop-told-preserved
+pub loop-next-preserved : goal.loop-next-preserved
 unfolding Judging.Judged Judging.PathGoes
-loop-told-preserved c = (
-  c.step-w.ensures.bounded,
-  rw c.counted-commands.ensures (count-le _ _ _ _ c.loop-told.invariant.1 (further c.step-w.ensures c.if-role-eq16.false)),
-  rw c.counted-lookups.ensures (count-le _ _ _ _ c.loop-told.invariant.2 (further c.step-w.ensures c.if-role-eq16.false)),
-  rw c.counted-variables.ensures (count-le _ _ _ _ c.loop-told.invariant.3 (further c.step-w.ensures c.if-role-eq16.false)),
+loop-next-preserved c = (
+  c.in-Some.ensures.bounded,
+  rw c.counted-commands.ensures (count-le _ _ _ _ c.loop-next.invariant.1 (c.in-Some.ensures.onward)),
+  rw c.counted-lookups.ensures (count-le _ _ _ _ c.loop-next.invariant.2 (c.in-Some.ensures.onward)),
+  rw c.counted-variables.ensures (count-le _ _ _ _ c.loop-next.invariant.3 (c.in-Some.ensures.onward)),
   c.path_after-p.ensures.1,
   λ l a r.
-      let n = newly _ _ _ _ _ _ c.step-w.ensures l a r.tape c.if-role-eq16.false (c.loop-told.invariant.5 l a r) in
+      let n = newly _ _ _ _ l a r.tape c.in-Some.ensures (c.loop-next.invariant.5 l a r) in
       rw (c.counted-commands.ensures, c.counted-lookups.ensures, c.counted-variables.ensures)
-      (onwards n (upright-on _ l a _ _ _ _ n c.judge-bad.result _ (c.judge-bad.ensures l a r n.tale n.said (newly-hearing _ l a _ _ _ _ n) (λ h. c.index_of-i.ensures ∙ newly-index _ l a _ _ _ _ n h) n.known.path) c.if-bad.false (c.path_after-p.ensures.0 l a r n.tale n.said (newly-hearing _ l a _ _ _ _ n) (newly-path _ l a _ _ _ _ n) (newly-here _ l a _ _ _ _ n) n.known.path))),
+      (onwards n (upright-on _ l a _ _ _ _ n c.judge-bad.result _ (c.judge-bad.ensures l a r n.tale n.said (newly-hearing _ l a _ _ _ _ n) (λ h. c.index_of-i.ensures ∙ newly-index _ l a _ _ _ _ n h) n.known.path) (sym c.is_some.ensures ∙ c.if-is_some.false) (c.path_after-p.ensures.0 l a r n.tale n.said (newly-hearing _ l a _ _ _ _ n) (newly-path _ l a _ _ _ _ n) (newly-here _ l a _ _ _ _ n) n.known.path))),
 )

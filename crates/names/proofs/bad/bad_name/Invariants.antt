@@ -5,16 +5,16 @@ use Rattle.grammar.specs.Table.{Said}
 use Rattle.notation.specs.Sayings.{Saying}
 use Rattle.notation.specs.Hearing.{draft_of}
 use Rattle.names.specs.Walking.{Bounded}
-use Rattle.names.specs.Answers.{Accepted, tale_said}
-use Rattle.names.specs.Tables.{Ready}
+use Rattle.names.specs.Answers.{Accepted}
+use Rattle.names.specs.Tables.{Prepared}
 use Rattle.names.specs.Judging.{PathIn}
 use Rattle.names.proofs.Halfway.{Halfway}
 use Rattle.names.proofs.Upright.{Upright}
 use Rattle.names.proofs.bad.bad_name.Given as goal
 
-abbrev pub invariant-loop-told : goal.invariant-loop-told
-invariant-loop-told v = Bounded v.w × (v.commands ≤ v.w.cursor.at) × (v.lookups ≤ v.w.cursor.at) × (v.variables ≤ v.w.cursor.at) × PathIn v.text v.p
-    × ((l : List (Said Saying)) → Accepted v.text l → Ready v.text (tale_said l) v.from v.to v.owner v.told → Halfway v.text v.lists v.w l (Upright v.text (draft_of l) v.commands v.lookups v.variables v.p))
+abbrev pub invariant-loop-next : goal.invariant-loop-next
+invariant-loop-next v = Bounded v.w × (v.commands ≤ v.w.cursor.at) × (v.lookups ≤ v.w.cursor.at) × (v.variables ≤ v.w.cursor.at) × PathIn v.tables.text.now v.p
+    × ((l : List (Said Saying)) → Accepted v.tables.text.now l → Prepared v.tables l → Halfway v.tables.text.now v.lists v.w l (Upright v.tables.text.now (draft_of l) v.commands v.lookups v.variables v.p))
 
-abbrev pub decreases-loop-told : goal.decreases-loop-told
-decreases-loop-told v = 18446744073709551616 - v.w.cursor.at
+abbrev pub decreases-loop-next : goal.decreases-loop-next
+decreases-loop-next v = 18446744073709551616 - v.w.cursor.at

@@ -10,8 +10,8 @@ use Rattle.names.proofs.Halfway.{Halfway}
 use Rattle.names.proofs.SearchNode.{Before}
 use Rattle.names.proofs.in_text.node.Given as goal
 
-abbrev pub invariant-loop-lists : goal.invariant-loop-lists
-invariant-loop-lists v = Bounded v.w × ((l : List (Said Saying)) → Accepted v.text l → Tape v.text v.owner → Halfway v.text v.lists v.w l (Before v.n))
+abbrev pub invariant-loop-next : goal.invariant-loop-next
+invariant-loop-next v = Bounded v.w × ((l : List (Said Saying)) → Accepted v.text l → Tape v.text v.owner → Halfway v.text v.lists v.w l (Before v.n))
 
-abbrev pub decreases-loop-lists : goal.decreases-loop-lists
-decreases-loop-lists v = 18446744073709551616 - v.w.cursor.at
+abbrev pub decreases-loop-next : goal.decreases-loop-next
+decreases-loop-next v = 18446744073709551616 - v.w.cursor.at

@@ -1,4 +1,5 @@
 -- `names::judge::unless` meets its contract: a test and a place.
+use Rattle.names.proofs.GoingUp.{none-is, some-is}
 use mathlib.Core.Path.{ap, ◌∙◌}
 use Rattle.names.specs.Answers.{found_of}
 use Rattle.names.specs.Judging.{unless_of}
@@ -7,8 +8,8 @@ use Rattle.names.proofs.judge.unless.Goals as goal
 
 pub returns-then-fine : goal.returns-then-fine
 unfolding unless_of
-returns-then-fine c = c.found_nowhere.ensures ∙ ap found_of (unless-true _ c.if-fine.true)
+returns-then-fine c = none-is ∙ ap found_of (unless-true _ c.if-fine.true)
 
 pub returns : goal.returns
 unfolding unless_of
-returns c = c.found_at.ensures ∙ ap found_of (unless-false _ c.if-fine.false)
+returns c = some-is _ ∙ ap found_of (unless-false _ c.if-fine.false)

@@ -12,8 +12,8 @@ use Rattle.names.proofs.Halfway.{Halfway}
 use Rattle.names.proofs.KindLaws.{Kinding}
 use Rattle.names.proofs.kinds.fill_kinds.Given as goal
 
-abbrev pub invariant-loop-lists : goal.invariant-loop-lists
-invariant-loop-lists v = Bounded v.w × ((l : List (Said Saying)) → length v.initial.kind ≡ 704 → Accepted v.text l → Tape v.text v.owner → Halfway v.text v.lists v.w l (Kinding v.initial.kind v.kind v.n))
+abbrev pub invariant-loop-next : goal.invariant-loop-next
+invariant-loop-next v = Bounded v.w × ((l : List (Said Saying)) → length v.initial.kind ≡ 704 → Accepted v.text l → Tape v.text v.owner → Halfway v.text v.lists v.w l (Kinding v.initial.kind v.kind v.n))
 
-abbrev pub decreases-loop-lists : goal.decreases-loop-lists
-decreases-loop-lists v = 18446744073709551616 - v.w.cursor.at
+abbrev pub decreases-loop-next : goal.decreases-loop-next
+decreases-loop-next v = 18446744073709551616 - v.w.cursor.at

@@ -10,8 +10,8 @@ use Rattle.names.proofs.Halfway.{Halfway}
 use Rattle.names.proofs.NumberLaws.{Numbering}
 use Rattle.names.proofs.numbers.command_number.Given as goal
 
-abbrev pub invariant-loop-lists : goal.invariant-loop-lists
-invariant-loop-lists v = Bounded v.w × (v.n ≤ v.w.cursor.at) × ((l : List (Said Saying)) → Accepted v.text l → Tape v.text v.owner → Halfway v.text v.lists v.w l (Numbering v.i v.n v.number))
+abbrev pub invariant-loop-next : goal.invariant-loop-next
+invariant-loop-next v = Bounded v.w × (v.n ≤ v.w.cursor.at) × ((l : List (Said Saying)) → Accepted v.text l → Tape v.text v.owner → Halfway v.text v.lists v.w l (Numbering v.i v.n v.number))
 
-abbrev pub decreases-loop-lists : goal.decreases-loop-lists
-decreases-loop-lists v = 18446744073709551616 - v.w.cursor.at
+abbrev pub decreases-loop-next : goal.decreases-loop-next
+decreases-loop-next v = 18446744073709551616 - v.w.cursor.at

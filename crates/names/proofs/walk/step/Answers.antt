@@ -6,10 +6,10 @@ use Rattle.names.proofs.Walks.{stopped, walked}
 use Rattle.names.proofs.walk.step.Goals as goal
 
 pub returns-then-at-before : goal.returns-then-at-before
-returns-then-at-before c = rw c.ended.ensures (stopped _ _ _ _ c.next-d.result c.next-d.ensures c.requires (inl c.if-at-before.true))
+returns-then-at-before c = stopped _ _ _ _ c.next-d.result c.next-d.ensures (inl c.if-at-before.true)
 
 pub returns-then-says-eq94 : goal.returns-then-says-eq94
-returns-then-says-eq94 c = rw c.ended-then-says-eq94.ensures (stopped _ _ _ _ c.next-d.result c.next-d.ensures c.requires (inr c.if-says-eq94.true))
+returns-then-says-eq94 c = stopped _ _ _ _ c.next-d.result c.next-d.ensures (inr c.if-says-eq94.true)
 
 pub returns : goal.returns
 unfolding heard_of
