@@ -12,24 +12,25 @@ mod wrong;
 
 ghost use Rattle.std.specs.Prelude.{◌≡◌};
 ghost use Rattle.plexil.specs.Macro.{event_answer};
+ghost use Rattle.plexil.specs.Tested.{tested_of};
 
 use answers::entries_answer;
 pub use card::card_after;
 pub use enter::entered;
-use plexil::{Card, RunAnswer, State, Tested};
+use plexil::{Card, RunAnswer, State};
 use shape::{event_serial, good_shape};
 
-pub fn event_answer(image: &[u8], state: State, card: Card, event: &[u8]) -> Tested
-    ensures { result ≡ event_answer image.now state card event.now }
+pub fn event_answer(image: &[u8], state: State, card: Card, event: &[u8]) -> Result<(), RunAnswer>
+    ensures { tested_of result ≡ event_answer image.now state card event.now }
 {
     if card.phase != 1 {
-        return Tested::Refused(RunAnswer::Busy);
+        return Err(RunAnswer::Busy);
     }
     if !good_shape(event) {
-        return Tested::Refused(RunAnswer::Shape);
+        return Err(RunAnswer::Shape);
     }
     if event_serial(event) != card.serial {
-        return Tested::Refused(RunAnswer::Turn);
+        return Err(RunAnswer::Turn);
     }
     entries_answer(image, &state, event)
 }

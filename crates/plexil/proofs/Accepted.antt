@@ -10,8 +10,8 @@ use Rattle.plexil.specs.declared.State.{State}
 use Rattle.plexil.specs.declared.Card.{Card}
 use Rattle.plexil.specs.declared.RunAnswer.{RunAnswer}
 use Rattle.plexil.specs.declared.RunAnswer.TheVariants.{Busy, Shape, Turn, Entry, Twice, NotAwaited}
-use Rattle.plexil.specs.declared.Tested.{Tested}
-use Rattle.plexil.specs.declared.Tested.TheVariants.{Accepted, Refused}
+use Rattle.plexil.specs.Tested.{Tested}
+use Rattle.plexil.specs.Tested.{Accepted, Refused}
 use Rattle.plexil.specs.Lists.{when◌then◌else◌, Found, at, nowhere}
 use Rattle.plexil.specs.Image.{Image}
 use Rattle.plexil.specs.Macro.{entry_count, form, good_form, good_entry, not_awaited, or_else, event_answer, form_of}

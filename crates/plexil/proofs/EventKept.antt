@@ -10,7 +10,7 @@ use borrow.Author.Tests.{ltb-true, not-false}
 use Rattle.plexil.specs.declared.Cell.{Cell}
 use Rattle.plexil.specs.declared.State.{State}
 use Rattle.plexil.specs.declared.Card.{Card}
-use Rattle.plexil.specs.declared.Tested.TheVariants.{Accepted}
+use Rattle.plexil.specs.Tested.{Accepted}
 use Rattle.plexil.specs.Lists.{when◌then◌else◌, every, some}
 use Rattle.plexil.specs.Image.{Image, node_count, look_count, look_kind}
 use Rattle.plexil.specs.Values.{cell}

@@ -5,7 +5,7 @@ use mathlib.Core.Bool.{true}
 use mathlib.Core.List.{List}
 use Rattle.plexil.specs.declared.State.{State}
 use Rattle.plexil.specs.declared.Card.{Card}
-use Rattle.plexil.specs.declared.Tested.TheVariants.{Accepted}
+use Rattle.plexil.specs.Tested.{Accepted}
 use Rattle.plexil.specs.Lists.{when◌then◌else◌, every, some}
 use Rattle.plexil.specs.Image.{Image}
 use Rattle.plexil.specs.Places.{fresh_state, fresh_card}

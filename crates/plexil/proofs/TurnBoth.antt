@@ -13,8 +13,8 @@ use Rattle.plexil.specs.declared.Verdict.{Verdict}
 use Rattle.plexil.specs.declared.Verdict.TheVariants.{Admitted, Refused}
 use Rattle.plexil.specs.declared.RunAnswer.{RunAnswer}
 use Rattle.plexil.specs.declared.RunAnswer.TheVariants as ran
-use Rattle.plexil.specs.declared.Tested.{Tested}
-use Rattle.plexil.specs.declared.Tested.TheVariants as test
+use Rattle.plexil.specs.Tested.{Tested}
+use Rattle.plexil.specs.Tested as test
 use Rattle.plexil.specs.Image.{Image}
 use Rattle.plexil.specs.Check.{verdict}
 use Rattle.plexil.specs.Form.{good_kept}

@@ -12,7 +12,7 @@ use Rattle.plexil.specs.declared.Place.{Place}
 use Rattle.plexil.specs.declared.Status.{Status}
 use Rattle.plexil.specs.declared.Effect.{Effect}
 use Rattle.plexil.specs.declared.Move.TheVariants.{Go}
-use Rattle.plexil.specs.declared.Tested.TheVariants.{Accepted}
+use Rattle.plexil.specs.Tested.{Accepted}
 use Rattle.plexil.specs.Values.{cell}
 use Rattle.plexil.specs.Image.{Image, node_count, var_count, owner}
 use Rattle.plexil.specs.Places.{state_of, initial, Failure, WriteLost, Quiet}

@@ -17,6 +17,7 @@ pub mod Order
 pub mod Carried
 pub mod Quiescence
 pub mod Form
+pub mod Tested
 pub mod Macro
 pub mod Replies
 pub mod Promises

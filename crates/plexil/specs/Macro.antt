@@ -6,8 +6,8 @@ use Rattle.plexil.specs.declared.State.{State}
 use Rattle.plexil.specs.declared.Card.{Card}
 use Rattle.plexil.specs.declared.RunAnswer.{RunAnswer}
 use Rattle.plexil.specs.declared.RunAnswer.TheVariants.{Busy, Shape, Turn, Entry, Twice, NotAwaited}
-use Rattle.plexil.specs.declared.Tested.{Tested}
-use Rattle.plexil.specs.declared.Tested.TheVariants.{Accepted, Refused}
+use Rattle.plexil.specs.Tested.{Tested}
+use Rattle.plexil.specs.Tested.{Accepted, Refused}
 use Rattle.plexil.specs.Lists.{when◌then◌else◌, every, any_below, Found, at, nowhere, first}
 use Rattle.plexil.specs.Bytes.{byte_at, le16, le32, le64}
 use Rattle.plexil.specs.Values.{cell, good_bits}

@@ -5,7 +5,7 @@ use Rattle.plexil.specs.declared.State.{State}
 use Rattle.plexil.specs.declared.Card.{Card}
 use Rattle.plexil.specs.declared.Condition.{Condition}
 use Rattle.plexil.specs.declared.Verdict.TheVariants.{Admitted}
-use Rattle.plexil.specs.declared.Tested.TheVariants.{Accepted}
+use Rattle.plexil.specs.Tested.{Accepted}
 use Rattle.plexil.specs.Image.{Image, node_count, expr_count, var_count, priority, value_field, owner, result_kind, var_kind}
 use Rattle.plexil.specs.Places.{seen, status_at, outcome_at, failure_at, var_cell, initial, fresh_state, fresh_card, Failure, WriteLost}
 use Rattle.plexil.specs.Expressions.{eval_of, value_of}

@@ -11,7 +11,7 @@ use Rattle.plexil.specs.declared.Ran.{Ran}
 use Rattle.plexil.specs.declared.Verdict.{Verdict}
 use Rattle.plexil.specs.declared.Verdict.TheVariants.{Refused}
 use Rattle.plexil.specs.declared.RunAnswer.{RunAnswer}
-use Rattle.plexil.specs.declared.Tested.TheVariants as test
+use Rattle.plexil.specs.Tested as test
 use Rattle.plexil.specs.Lists.{put}
 use Rattle.plexil.specs.Image.{Image}
 use Rattle.plexil.specs.Places.{Running, Quiet}

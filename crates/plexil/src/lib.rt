@@ -176,13 +176,6 @@ pub enum RunAnswer {
     Quiet,
 }
 
-// What the tests before a run or a turn answer: what is given is accepted, or the first broken one refuses.
-#[derive(Clone, Copy)]
-pub enum Tested {
-    Accepted,
-    Refused(RunAnswer),
-}
-
 // The reply of a run or a turn: the count of steps done and the next free place in the list.
 #[derive(Clone, Copy)]
 pub struct Ran {

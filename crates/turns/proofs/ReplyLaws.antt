@@ -15,8 +15,8 @@ use Rattle.plexil.specs.declared.Started.{Started}
 use Rattle.plexil.specs.declared.Ran.{Ran}
 use Rattle.plexil.specs.declared.RunAnswer.{RunAnswer}
 use Rattle.plexil.specs.declared.RunAnswer.TheVariants as ran
-use Rattle.plexil.specs.declared.Tested.{Tested}
-use Rattle.plexil.specs.declared.Tested.TheVariants as test
+use Rattle.plexil.specs.Tested.{Tested}
+use Rattle.plexil.specs.Tested as test
 use Rattle.plexil.specs.Image.{Image}
 use Rattle.plexil.specs.Places.{fresh_state, fresh_card}
 use Rattle.plexil.specs.Check.{verdict}

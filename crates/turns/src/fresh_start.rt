@@ -6,9 +6,7 @@ use plexil::{Card, Started, State, Verdict};
 pub fn fresh(image: &[u8], state: State, card: Card) -> Started
     ensures { FreshPermits image.now state card result }
 {
-    let checked = admit::check(image);
-    let v = checked.verdict;
-    match v {
+    match admit::check(image).verdict {
         Verdict::Admitted => Started {
             verdict: Verdict::Admitted,
             state: places::fresh_state(image),

@@ -3,7 +3,7 @@ ghost use Rattle.plexil.specs.ReplyPromises.{TurnPermits};
 
 use super::runs::{refused, run_steps};
 use super::tested::turn_test;
-use plexil::{Card, Ran, State, Tested};
+use plexil::{Card, Ran, State};
 
 pub fn turn(
     image: &[u8],
@@ -16,13 +16,10 @@ pub fn turn(
 ) -> Ran
     ensures { TurnPermits image.now state card event.now budget list.old start result list.new }
 {
-    let t = turn_test(image, state, card, event, list.len(), start);
-    match t {
-        Tested::Accepted => {
-            let told = events::entered(image, state, event);
-            let after = events::card_after(card);
-            run_steps(image, told, after, budget, list, start)
-        }
-        Tested::Refused(a) => refused(a, start, state, card),
+    if let Err(a) = turn_test(image, state, card, event, list.len(), start) {
+        return refused(a, start, state, card);
     }
+    let told = events::entered(image, state, event);
+    let after = events::card_after(card);
+    run_steps(image, told, after, budget, list, start)
 }

@@ -8,7 +8,7 @@ ghost use Rattle.turns.specs.Ended.{ran_to, unrun};
 
 use super::tested::run_test;
 use micro::Stepped;
-use plexil::{Card, Ran, RunAnswer, State, Tested};
+use plexil::{Card, Ran, RunAnswer, State};
 
 // The reply of a run that ended: the serial stays, the phase is 1 exactly after Quiet.
 fn ended(answer: RunAnswer, phase: u32, steps: u16, next: usize, state: State, card: Card) -> Ran
@@ -79,9 +79,8 @@ pub fn run(
 ) -> Ran
     ensures { RunPermits image.now state card budget list.old start result list.new }
 {
-    let t = run_test(image, state, card, list.len(), start);
-    match t {
-        Tested::Accepted => run_steps(image, state, card, budget, list, start),
-        Tested::Refused(a) => refused(a, start, state, card),
+    if let Err(a) = run_test(image, state, card, list.len(), start) {
+        return refused(a, start, state, card);
     }
+    run_steps(image, state, card, budget, list, start)
 }

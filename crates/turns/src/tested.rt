@@ -3,34 +3,45 @@ ghost use Rattle.std.specs.Prelude.{◌≡◌};
 ghost use Rattle.plexil.specs.declared.Verdict.TheVariants.{Admitted};
 ghost use Rattle.plexil.specs.Check.{verdict};
 ghost use Rattle.plexil.specs.Replies.{run_test, turn_test};
+ghost use Rattle.plexil.specs.Tested.{tested_of};
 ghost use Rattle.plexil.specs.Promises.{IsAdmitted};
 
 use super::kept::good_kept;
-use plexil::{Card, RunAnswer, State, Tested, Verdict};
+use plexil::{Card, RunAnswer, State, Verdict};
 
 // An admitted plan: 30, then 31. The end is the list's.
-fn test_admitted(image: &[u8], state: State, card: Card, end: usize, start: usize) -> Tested
+fn test_admitted(
+    image: &[u8],
+    state: State,
+    card: Card,
+    end: usize,
+    start: usize,
+) -> Result<(), RunAnswer>
     requires { IsAdmitted image.now }
-    ensures { result ≡ run_test Admitted image.now state card end start }
+    ensures { tested_of result ≡ run_test Admitted image.now state card end start }
 {
-    if good_kept(image, state, card) {
-        if end < start {
-            return Tested::Refused(RunAnswer::Place);
-        }
-        return Tested::Accepted;
+    if !good_kept(image, state, card) {
+        return Err(RunAnswer::State);
     }
-    Tested::Refused(RunAnswer::State)
+    if end < start {
+        return Err(RunAnswer::Place);
+    }
+    Ok(())
 }
 
 // "Every call checks its image first, then 30 .., then 31"
-pub(crate) fn run_test(image: &[u8], state: State, card: Card, end: usize, start: usize) -> Tested
-    ensures { result ≡ run_test (verdict image.now) image.now state card end start }
+pub(crate) fn run_test(
+    image: &[u8],
+    state: State,
+    card: Card,
+    end: usize,
+    start: usize,
+) -> Result<(), RunAnswer>
+    ensures { tested_of result ≡ run_test (verdict image.now) image.now state card end start }
 {
-    let checked = admit::check(image);
-    let v = checked.verdict;
-    match v {
+    match admit::check(image).verdict {
         Verdict::Admitted => test_admitted(image, state, card, end, start),
-        Verdict::Refused(rule, i) => Tested::Refused(RunAnswer::Refused(rule, i)),
+        Verdict::Refused(rule, i) => Err(RunAnswer::Refused(rule, i)),
     }
 }
 
@@ -44,12 +55,9 @@ pub(crate) fn turn_test(
     event: &[u8],
     end: usize,
     start: usize,
-) -> Tested
-    ensures { result ≡ turn_test (verdict image.now) image.now state card event.now end start }
+) -> Result<(), RunAnswer>
+    ensures { tested_of result ≡ turn_test (verdict image.now) image.now state card event.now end start }
 {
-    let t = run_test(image, state, card, end, start);
-    match t {
-        Tested::Accepted => events::event_answer(image, state, card, event),
-        Tested::Refused(a) => Tested::Refused(a),
-    }
+    run_test(image, state, card, end, start)?;
+    events::event_answer(image, state, card, event)
 }

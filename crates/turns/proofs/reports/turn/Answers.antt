@@ -1,5 +1,7 @@
 -- By what the tests answer; the run is on what the event leaves.
 use borrow.Author.Rules.{rules}
+use mathlib.Core.Path.{ap}
+use Rattle.plexil.specs.Tested.{tested_of}
 use Rattle.plexil.specs.Promises.{Sized}
 use Rattle.turns.proofs.ReplyLaws.{turn-passes, turn-goes, turn-refused}
 use Rattle.turns.proofs.reports.turn.Goals as goal
@@ -19,10 +21,10 @@ whole c = record {
 }
 
 pub run_steps-requires : goal.run_steps-requires
-run_steps-requires c = turn-passes _ _ _ _ c.args.list.now _ c.turn_test-t.ensures c.in-Accepted.is (whole (goal.at.run_steps-requires c).Start) c.entered-told.ensures
+run_steps-requires c = turn-passes _ _ _ _ c.args.list.now _ c.turn_test.ensures (ap tested_of c.in_default.is) (whole (goal.at.run_steps-requires c).Start) c.entered-told.ensures
 
-pub returns-in-Accepted : goal.returns-in-Accepted
-returns-in-Accepted c = turn-goes _ _ _ _ _ _ _ c.turn_test-t.ensures c.in-Accepted.is c.entered-told.ensures c.card_after-after.ensures c.run_steps.ensures.0 c.run_steps.ensures.1
+pub returns : goal.returns
+returns c = turn-goes _ _ _ _ _ _ _ c.turn_test.ensures (ap tested_of c.in_default.is) c.entered-told.ensures c.card_after-after.ensures c.run_steps.ensures.0 c.run_steps.ensures.1
 
-pub returns-in-Refused : goal.returns-in-Refused
-returns-in-Refused c = turn-refused _ _ _ _ _ _ _ c.turn_test-t.ensures _ c.in-Refused.is c.refused.ensures
+pub returns-in-Err : goal.returns-in-Err
+returns-in-Err c = turn-refused _ _ _ _ _ _ _ c.turn_test.ensures _ (ap tested_of c.in-Err.is) c.refused.ensures
