@@ -1,8 +1,9 @@
 -- What a token adds by the number of what it says: the tables are the definition's, by one computed test.
 use Prim.Native.Nat.{ℕ, zero, suc, ◌+◌, ◌-◌, ◌<◌, ◌≤◌}
-use mathlib.Core.Path.{◌≡◌, refl, ◌∙◌, sym, ap}
+use mathlib.Core.Path.{◌≡◌, refl, ◌∙◌}
 use mathlib.Core.Bool.{Bool, true, false, ◌||◌}
 use native.Mathlib.Omega.{arith}
+use mir.Val.{bool_byte}
 use lib.ListN.{get_or}
 use lib.Dec.{ltb}
 use Rattle.recognise.specs.declared.Counts.{Counts}
@@ -26,12 +27,12 @@ pub weight-small : (n : ℕ) → get_or weights n 0 ≤ 2
 unfolding weights at_most
 weight-small n = get_or-at_most 2 weights refl n
 
-pub count_by : (n : ℕ) (p : ℕ) (c : Counts) → n < 94 → {w k : ℕ} → w ≡ get_or weights n 0 → k ≡ get_or changes n 0 → (x : Change) → get_or change_list k adds ≡ x
+pub count_by : (n : ℕ) (p : ℕ) (c : Counts) → n < 94 → {w : ℕ} → w ≡ get_or weights n 0 → (x : Change) → x ≡ get_or change_list (get_or changes n 0) adds
     → changed x w p c ≡ count_of (say_of n) p c
 unfolding count_of
-count_by n p c h {w} {k} e f x g =
+count_by n p c h {w} e x f =
     let a : w ≡ weight_of (say_of n) = e ∙ listed (λ j. get_or weights j 0) (λ j. weight_of (say_of j)) 94 0 weights-right n h in
-    let b : x ≡ change_of (say_of n) = sym g ∙ ap (λ (j : ℕ). get_or change_list j adds) f ∙ listed (λ j. get_or change_list (get_or changes j 0) adds) (λ j. change_of (say_of j)) 94 adds changes-right n h in
+    let b : x ≡ change_of (say_of n) = f ∙ listed (λ j. get_or change_list (get_or changes j 0) adds) (λ j. change_of (say_of j)) 94 adds changes-right n h in
     λ i. changed (b i) (a i) p c
 
 -- a change that is none of those after the first
@@ -54,12 +55,19 @@ unfolding flagged
 flagged-small true = omega arith
 flagged-small false = omega arith
 
+pub byte-flagged : (b : Bool) → bool_byte b ≡ flagged b
+unfolding flagged
+byte-flagged true = refl
+byte-flagged false = refl
+
 -- three changes as the code makes them
 module _ (c : Counts) (w p : ℕ) where
   pub settles-by : {h : ℕ} → h ≡ flagged c.held
-      → record { nodes = c.nodes; entries = c.entries + h + w; variables = c.variables; lookups = c.lookups; commands = c.commands; depth = c.depth; held = false; deep = c.deep; place = c.place } ≡ changed settles w p c
+      → record { nodes = c.nodes; entries = c.entries + w + h; variables = c.variables; lookups = c.lookups; commands = c.commands; depth = c.depth; held = false; deep = c.deep; place = c.place } ≡ changed settles w p c
   unfolding changed
-  settles-by e = λ i. record { nodes = c.nodes; entries = c.entries + e i + w; variables = c.variables; lookups = c.lookups; commands = c.commands; depth = c.depth; held = false; deep = c.deep; place = c.place }
+  settles-by {h} e =
+      let z : c.entries + w + h ≡ c.entries + flagged c.held + w = omega (arith, e) in
+      λ i. record { nodes = c.nodes; entries = z i; variables = c.variables; lookups = c.lookups; commands = c.commands; depth = c.depth; held = false; deep = c.deep; place = c.place }
 
   pub node_by : {q : ℕ} → q ≡ (changed node 0 p c).place
       → record { nodes = c.nodes + 1; entries = c.entries + w; variables = c.variables; lookups = c.lookups; commands = c.commands; depth = c.depth; held = c.held; deep = c.deep || ltb 16 (c.depth + 1); place = q } ≡ changed node w p c

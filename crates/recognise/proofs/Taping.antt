@@ -56,7 +56,7 @@ module _ (u os : List ℕ) (c : Cursor) where
       within = omega arith;
     })
 
-    module _ (v : ℕ) (is : v ≡ held_in os c.at) (inside : c.at < c.sayings) (known : says_in v ≤ 93) (within : to_in v ≤ length u) where
+    module _ (v : ℕ) (is : v ≡ held_in os c.at) (inside : c.at < c.sayings) (known : says_in v < 94) (within : to_in v ≤ length u) where
       pub told-on : Advanced u os c (record { at = c.at + 1; from = from_in v; to = to_in v; says = says_in v; ahead = c.ahead; sayings = c.sayings })
       unfolding Hears
       told-on = record {

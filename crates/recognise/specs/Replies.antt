@@ -5,6 +5,10 @@ use Rattle.recognise.specs.declared.tables.Move.{Move}
 use Rattle.recognise.specs.declared.tables.Effect.{Effect}
 use Rattle.recognise.specs.declared.tables.Effect.TheVariants as code
 use Rattle.recognise.specs.declared.steps.Went.{Went}
+use Rattle.recognise.specs.declared.counting.Change.{Change}
+use Rattle.recognise.specs.declared.counting.Change.TheVariants as change
+use Rattle.recognise.specs.Counting as counting
+use Rattle.recognise.specs.Counting.{adds, command, lookup, node, opens, closes_one, variable, holds, answers, settles}
 use Rattle.recognise.specs.Tables as rows
 use Rattle.recognise.specs.Steps as plan
 use Rattle.recognise.specs.Steps.{Stepped, goes_on, begins_node, begins_in_list, closes_list, opens_list, assigns, opens_paren, ends, closes_paren, marks}
@@ -52,7 +56,20 @@ ahead_of s = cond s.ok (Some s.next) None
 unfoldable pub came : Stepped → Option Went
 came s = cond s.ok (Some (record { says = s.says; next = s.next })) None
 
+-- a change as the code has it
+unfoldable pub change_is : Change → counting.Change
+change_is change.Adds = adds
+change_is change.Command = command
+change_is change.Lookup = lookup
+change_is change.Node = node
+change_is change.Opens = opens
+change_is change.ClosesOne = closes_one
+change_is change.Variable = variable
+change_is change.Holds = holds
+change_is change.Answers = answers
+change_is change.Settles = settles
+
 -- opens every definition of this file
 unfoldable pub opened : Unit {0}
-unfolding effect_is Lawful plain_effects effect_code row_with row_told ahead_of came
+unfolding change_is effect_is Lawful plain_effects effect_code row_with row_told ahead_of came
 opened = tt

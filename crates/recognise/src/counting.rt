@@ -1,10 +1,29 @@
 // What a token adds to the counts of a plan.
-ghost use Rattle.std.specs.Prelude.{◌≡◌, ◌<◌, ◌-◌, get_or};
+ghost use Rattle.std.specs.Prelude.{◌≡◌, ◌<◌, get_or};
 ghost use Rattle.recognise.specs.Codes.{say_of};
-ghost use Rattle.recognise.specs.Counting.{flagged, weights, changes, node, count_of, changed};
+ghost use Rattle.recognise.specs.Counting.{weights, changes, change_list, adds, node, count_of, changed};
+ghost use Rattle.recognise.specs.Replies.{change_is};
 ghost use Rattle.recognise.specs.Room.{Room};
 
 use super::Counts;
+
+// What a token changes besides the entries that it makes.
+#[derive(Clone, Copy)]
+enum Change {
+    Adds,
+    Command,
+    Lookup,
+    Node,
+    Opens,
+    ClosesOne,
+    Variable,
+    // A name is held until it is known whether it is a variable's, which is one entry more.
+    Holds,
+    Answers,
+    Settles,
+}
+
+// The tables hold numbers, as the definitions `weights` and `changes` of the same lists do.
 
 // How many entries a token makes, by the number of what it says.
 const WEIGHTS: [u8; 94] = [
@@ -27,11 +46,30 @@ fn weight(says: usize) -> u8
     WEIGHTS[says]
 }
 
-fn change(says: usize) -> u8
-    requires { says < 94 }
-    ensures { result ≡ get_or changes says 0 }
+// The change of a number of the table.
+#[tactic(auto, unfolding(crate::specs::Replies::change_is, crate::specs::Counting::change_list))]
+fn change_code(k: u8) -> Change
+    ensures { change_is result ≡ get_or change_list k adds }
 {
-    CHANGES[says]
+    match k {
+        1 => Change::Command,
+        2 => Change::Lookup,
+        3 => Change::Node,
+        4 => Change::Opens,
+        5 => Change::ClosesOne,
+        6 => Change::Variable,
+        7 => Change::Holds,
+        8 => Change::Answers,
+        9 => Change::Settles,
+        _ => Change::Adds,
+    }
+}
+
+fn change_at(says: usize) -> Change
+    requires { says < 94 }
+    ensures { change_is result ≡ get_or change_list (get_or changes says 0) adds }
+{
+    change_code(CHANGES[says])
 }
 
 fn place_of(c: Counts, place: usize) -> usize
@@ -44,65 +82,50 @@ fn place_of(c: Counts, place: usize) -> usize
     if 16 < c.depth + 1 { place } else { 0 }
 }
 
-fn flag(b: bool) -> usize
-    ensures { result ≡ flagged b }
-{
-    if b { 1 } else { 0 }
-}
-
 // The counts after a token at a place, by the number of what it says.
 pub fn count(c: Counts, says: u8, place: usize) -> Counts
     requires { (says < 94) × Room c }
     ensures { result ≡ count_of (say_of says) place c }
 {
     let w = weight(says as usize) as usize;
-    let k = change(says as usize);
-    let mut r = c;
-    if k == 9 {
-        r.entries = c.entries + flag(c.held) + w;
-        r.held = false;
-        return r;
+    let r = Counts {
+        entries: c.entries + w,
+        ..c
+    };
+    match change_at(says as usize) {
+        Change::Adds => r,
+        Change::Command => Counts {
+            commands: c.commands + 1,
+            ..r
+        },
+        Change::Lookup => Counts {
+            lookups: c.lookups + 1,
+            ..r
+        },
+        Change::Node => Counts {
+            nodes: c.nodes + 1,
+            deep: c.deep | (16 < c.depth + 1),
+            place: place_of(c, place),
+            ..r
+        },
+        Change::Opens => Counts {
+            depth: c.depth + 1,
+            ..r
+        },
+        Change::ClosesOne => Counts {
+            depth: c.depth.saturating_sub(1),
+            ..r
+        },
+        Change::Variable => Counts {
+            variables: c.variables + 1,
+            ..r
+        },
+        Change::Holds => Counts { held: true, ..r },
+        Change::Answers => Counts { held: false, ..r },
+        Change::Settles => Counts {
+            entries: r.entries + c.held as usize,
+            held: false,
+            ..r
+        },
     }
-    r.entries = c.entries + w;
-    if k == 1 {
-        r.commands = c.commands + 1;
-        return r;
-    }
-    if k == 2 {
-        r.lookups = c.lookups + 1;
-        return r;
-    }
-    if k == 3 {
-        r.nodes = c.nodes + 1;
-        r.place = place_of(c, place);
-        r.deep = c.deep | (16 < c.depth + 1);
-        return r;
-    }
-    if k == 4 {
-        r.depth = c.depth + 1;
-        return r;
-    }
-    if k == 5 {
-        r.depth = less_one(c.depth);
-        return r;
-    }
-    if k == 6 {
-        r.variables = c.variables + 1;
-        return r;
-    }
-    if k == 7 {
-        r.held = true;
-        return r;
-    }
-    if k == 8 {
-        r.held = false;
-        return r;
-    }
-    r
-}
-
-fn less_one(n: usize) -> usize
-    ensures { result ≡ n - 1 }
-{
-    if n == 0 { 0 } else { n - 1 }
 }

@@ -13,6 +13,9 @@ pub use steps::{Went, step};
 pub use taking::{Halt, Taken, take};
 pub use tape::{begin, next};
 
+// What a cursor has last heard at the end of the text: it is no number of a saying.
+const OVER: u8 = 94;
+
 // What is still to come: the position, a mark for each attribute that the node has, what follows the expression at hand, its open
 // parentheses, and the open lists.
 #[derive(Clone, Copy)]
@@ -26,7 +29,7 @@ pub struct Ahead {
 
 // The counts of a plan while its text is followed: what has been declared and begun, the entries that are made or pending, the open lists,
 // whether a name is held that may be a variable's, and whether a node lies too deep, and where the first such begins.
-#[derive(Clone, Copy)]
+#[derive(Clone, Copy, Default)]
 pub struct Counts {
     pub nodes: usize,
     pub entries: usize,
@@ -40,7 +43,7 @@ pub struct Counts {
 }
 
 // What is told of a text before it is read.
-#[derive(Clone, Copy)]
+#[derive(Clone, Copy, Default)]
 pub struct Recognised {
     pub accepted: bool,
     pub reach: usize,

@@ -26,15 +26,8 @@ fn refused_at(reach: usize) -> Recognised
     ensures { result ≡ refused_at reach }
 {
     Recognised {
-        accepted: false,
         reach,
-        deep: false,
-        place: 0,
-        nodes: 0,
-        entries: 0,
-        variables: 0,
-        lookups: 0,
-        commands: 0,
+        ..Recognised::default()
     }
 }
 
@@ -92,19 +85,9 @@ pub fn recognise(text: &[u8], owner: &mut [usize; 10525]) -> Recognised
     ensures { (result ≡ recognised_of text.now) × (length owner.old ≡ 10525 → (length owner.new ≡ 10525) × Tape text.now owner.new) }
 {
     let mut at = 0;
-    let mut sayings: usize = 0;
+    let mut sayings = 0;
     let mut ahead = start();
-    let mut n = Counts {
-        nodes: 0,
-        entries: 0,
-        variables: 0,
-        lookups: 0,
-        commands: 0,
-        depth: 0,
-        held: false,
-        deep: false,
-        place: 0,
-    };
+    let mut n = Counts::default();
     loop {
         match take(text, at, ahead) {
             Ok(t) => {

@@ -4,7 +4,7 @@ ghost use Rattle.recognise.specs.Hears.{Scanned};
 ghost use Rattle.recognise.specs.Taking.{taken_of};
 
 use super::steps::step;
-use super::{Ahead, Cursor};
+use super::{Ahead, Cursor, OVER};
 use scan::{Broken, Token};
 
 // A token that can come, what it says, and what is to come after it.
@@ -81,7 +81,7 @@ pub(crate) fn advance(text: &[u8], c: Cursor) -> Cursor
         at,
         from: 0,
         to: 0,
-        says: 94,
+        says: OVER,
         ahead,
         sayings: 0,
     }

@@ -3,9 +3,9 @@
 ghost use Rattle.std.specs.Prelude.{◌≡◌, ◌<◌, ◌≤◌, ◌-◌, set};
 ghost use Rattle.recognise.specs.Tape.{packed, held_in, holding, sealed, Winds, Advanced, Begun};
 
-use super::Cursor;
 use super::steps::start;
 use super::taking::advance;
+use super::{Cursor, OVER};
 
 // A saying and its token in one number.
 fn pack(says: u8, from: usize, to: usize) -> usize
@@ -40,7 +40,8 @@ fn hold(owner: &mut [usize; 10525], i: usize, kept: usize)
     owner[j] = owner[j] % 4294967296 + 4294967296 * kept;
 }
 
-// What the token says is kept, where there is room for it; how many sayings there are then, 19641 where not all are kept.
+// What the token says is kept, where there is room for it; how many sayings there are then, 19641 where not all are kept: the definitions
+// `Winds` and `sealed` count so.
 pub(crate) fn keep(owner: &mut [usize; 10525], i: usize, says: u8, from: usize, to: usize) -> usize
     requires { (says < 128) × (from ≤ to) }
     ensures { Winds owner.old i says from to result owner.new }
@@ -79,13 +80,12 @@ pub(crate) fn seal(owner: &mut [usize; 10525], i: usize)
 pub fn begin(owner: &[usize; 10525]) -> Cursor
     ensures { Begun owner.now result }
 {
-    let ahead = start();
     Cursor {
         at: 0,
         from: 0,
         to: 0,
-        says: 94,
-        ahead,
+        says: OVER,
+        ahead: start(),
         sayings: owner[704],
     }
 }
@@ -97,7 +97,7 @@ fn over(c: Cursor) -> Cursor
     Cursor {
         from: 0,
         to: 0,
-        says: 94,
+        says: OVER,
         ..c
     }
 }
@@ -121,7 +121,7 @@ pub fn next<'a>(text: &'a [u8], owner: &'a [usize; 10525], c: Cursor) -> Cursor
     let says = (kept % 128) as u8;
     let from = kept / 128 % 262144;
     let to = from + kept / 33554432;
-    if says > 93 {
+    if says >= OVER {
         return over(c);
     }
     if text.len() < to {

@@ -8,7 +8,7 @@ ghost use Rattle.scan.specs.Runs.{is_number_byte};
 pub fn is_blank(b: u8) -> bool
     ensures { result ≡ is_blank b }
 {
-    matches!(b, b' ' | b'\t' | b'\n' | b'\r')
+    (b == b' ') | (b == b'\t') | (b == b'\n') | (b == b'\r')
 }
 
 pub fn is_letter(b: u8) -> bool

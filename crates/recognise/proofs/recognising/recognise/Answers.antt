@@ -3,7 +3,10 @@ use mathlib.Core.Path.{◌≡◌, refl, ◌∙◌, sym, ap, subst⁻¹}
 use native.Mathlib.Omega.{arith}
 use lib.ListN.{length}
 use Rattle.std.specs.Prelude.{Err}
+use Rattle.std.proofs.Common.{rules}
 use Rattle.recognise.specs.declared.Ahead.{Ahead}
+use Rattle.recognise.specs.declared.Counts.{Counts}
+use Rattle.recognise.specs.Steps.{start_ahead}
 use Rattle.recognise.specs.declared.Recognised.{Recognised}
 use Rattle.recognise.specs.Recognised.{refused_at}
 use Rattle.recognise.proofs.Takings.{taken-one}
@@ -11,14 +14,16 @@ use Rattle.recognise.proofs.Advances.{taken-says, taken-further}
 use Rattle.notation.specs.Spoken.{spoken}
 use Rattle.recognise.proofs.Tapes.{Wound, nothing-wound, wound-on, tape-sealed, tape-refused}
 use Rattle.recognise.proofs.CountFew.{few-room}
-use Rattle.recognise.proofs.Following.{Following, no_counts, follow-begin, begin-heard, follow-counted}
+use Rattle.recognise.proofs.Following.{Following, follow-begin, begin-heard, follow-counted}
 use Rattle.recognise.proofs.FollowEnds.{whole-told, not-whole, follow-says, follow-accepted, follow-lies, follow-refused}
 use Rattle.recognise.proofs.recognising.recognise.Goals as goal
 
 pub loop-t-init : goal.loop-t-init
 unfolding spoken
-loop-t-init c = subst⁻¹ (λ (a : Ahead). (f : Following c.args.text.now 0 a no_counts) × (length c.args.owner.now ≡ 10525 → Wound c.args.text.now c.args.owner.now (spoken f.heard) 0))
-    c.start-ahead.ensures (follow-begin _, λ e. rw (begin-heard c.args.text.now) (nothing-wound _ _ e))
+loop-t-init c = subst⁻¹ (λ (a : Ahead). (f : Following c.args.text.now 0 a c.default-n.result) × (length c.args.owner.now ≡ 10525 → Wound c.args.text.now c.args.owner.now (spoken f.heard) 0))
+    c.start-ahead.ensures
+    (subst⁻¹ (λ (n : Counts). (f : Following c.args.text.now 0 start_ahead n) × (length c.args.owner.now ≡ 10525 → Wound c.args.text.now c.args.owner.now (spoken f.heard) 0))
+    (search rules) (follow-begin _, λ e. rw (begin-heard c.args.text.now) (nothing-wound _ _ e)))
 
 pub returns-then-is_whole : goal.returns-then-is_whole
 returns-then-is_whole c = let g = c.loop-t.invariant in

@@ -8,4 +8,4 @@ use Rattle.recognise.proofs.tape.begin.Goals as goal
 
 pub returns : goal.returns
 returns c = let os = c.args.owner.now in
-    subst (λ (a : Ahead). Begun os (record { at = 0; from = 0; to = 0; says = 94; ahead = a; sayings = get_or os 704 0 })) (sym c.start-ahead.ensures) (begun-told os)
+    subst (λ (a : Ahead). Begun os (record { at = 0; from = 0; to = 0; says = 94; ahead = a; sayings = get_or os 704 0 })) (sym c.start.ensures) (begun-told os)

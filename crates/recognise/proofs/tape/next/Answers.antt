@@ -16,8 +16,8 @@ pub returns-then-i-ge19640 : goal.returns-then-i-ge19640
 returns-then-i-ge19640 c = over-so _ _ _ c.if-sayings-eq0.false (λ w n. omega (arith, n.few, c.if-i-ge19640.true)) _ c.over-then-i-ge19640.ensures
 
 -- src/tape.rt:129:9
-pub returns-then-says-gt93 : goal.returns-then-says-gt93
-returns-then-says-gt93 c = over-so _ _ _ c.if-sayings-eq0.false (λ w n. omega (arith, n.tells.known, rw c.held-kept.ensures at c.if-says-gt93.true)) _ c.over-then-says-gt93.ensures
+pub returns-then-says-ge-OVER : goal.returns-then-says-ge-OVER
+returns-then-says-ge-OVER c = over-so _ _ _ c.if-sayings-eq0.false (λ w n. omega (arith, n.tells.known, rw c.held-kept.ensures at c.if-says-ge-OVER.true)) _ c.over-then-says-ge-OVER.ensures
 
 -- src/tape.rt:132:9
 pub returns-then-text-to : goal.returns-then-text-to
@@ -25,4 +25,4 @@ returns-then-text-to c = over-so _ _ _ c.if-sayings-eq0.false (λ w n. omega (ar
 
 -- src/tape.rt:110:1
 pub returns : goal.returns
-returns c = told-on _ _ _ c.if-sayings-eq0.false _ c.held-kept.ensures c.if-i-sayings.false c.if-says-gt93.false c.if-text-to.false
+returns c = told-on _ _ _ c.if-sayings-eq0.false _ c.held-kept.ensures c.if-i-sayings.false c.if-says-ge-OVER.false c.if-text-to.false
