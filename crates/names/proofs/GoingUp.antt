@@ -9,7 +9,8 @@ use Rattle.grammar.specs.Spelling.{Token}
 use Rattle.notation.specs.Draft.{Draft}
 use Rattle.notation.specs.Hearing.{parent_in}
 use Rattle.notation.specs.Names.{own_variable, variable_up, node_at, node_up}
-use Rattle.std.specs.Prelude.{Option, unwrap_or, is_some, Some, None}
+use Rattle.std.specs.Prelude.{Option, unwrap_or, is_some, Some, None, IfOk}
+use Rattle.std.specs.Option.{ok_or}
 use Rattle.names.specs.Answers.{found_of}
 
 -- f at node n, else at its parent, and so on up, at most k nodes
@@ -89,3 +90,8 @@ small-nowhere e = rw e (omega arith)
 pub small_at : {r : Option ℕ} (i : ℕ) → r ≡ found_of (at i) → i < 18446744073709551615 → unwrap_or r 0 < 18446744073709551615
 unfolding found_of
 small_at i e h = rw e h
+
+-- so is the number at the end of a path
+pub small-end : (r : Option ℕ) (k : ℕ) → unwrap_or r 0 < 18446744073709551615 → IfOk (ok_or r k) (λ n. n < 18446744073709551615)
+small-end (Some i) k h = h
+small-end None k h = tt

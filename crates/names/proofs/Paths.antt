@@ -2,7 +2,7 @@
 use Prim.Native.Nat.{ℕ, suc}
 use mathlib.Core.Path.{◌≡◌, refl, ap, sym, ◌∙◌}
 use mathlib.Core.Logic.{inl, inr}
-use mathlib.Core.Bool.{Bool, true, false}
+use mathlib.Core.Bool.{Bool, true, false, true≢false}
 use mathlib.Core.List.{List, [], ◌∷◌, ◌++◌, append_assoc, append-nil}
 use native.Mathlib.Omega.{arith}
 use lib.Dec.{eqb}
@@ -12,8 +12,11 @@ use Rattle.notation.specs.Draft.{Draft, Mention, Mentioned, use_of_node, use_of_
 use Rattle.notation.specs.Hearing.{◌▸◌, all_bytes}
 use Rattle.notation.specs.Names.{is_found, is_at, variable_of, child_of, node_up, node_down, node_of, in_order, bad_mention}
 use Rattle.recognise.specs.Hears.{piece}
-use Rattle.std.specs.Prelude.{Option, unwrap_or, is_some, Some, None}
+use Rattle.std.specs.Prelude.{Option, unwrap_or, is_some, Some, None, Result, Ok, Err, is_ok}
+use Rattle.std.specs.Result.{result_unwrap_or, result_err}
 use Rattle.names.specs.declared.judge.Path.{Path}
+use Rattle.names.specs.declared.judge.Held.{Held}
+use Rattle.names.specs.declared.judge.Held.TheVariants.{Nothing, Name, Route}
 use Rattle.names.specs.Tale.{parts}
 use Rattle.names.specs.Answers.{found_of}
 use Rattle.names.specs.Judging.{HasPath, settled_by, lost_of, Followed, Whole, PathIs, FirstPart, NextPart, unless_of, followed_of}
@@ -32,8 +35,14 @@ unfolding found_of is_found
 found-same (at i) = refl
 found-same nowhere = refl
 
-never : {A : Type 0} {i j : ℕ} (k : ℕ) → k ≡ i → k ≡ j → (i ≡ j → ⊥) → A
-never k e f h = absurd (h (sym e ∙ f))
+-- what is held is one of the three
+unfoldable rank : Held → ℕ
+rank Nothing = 0
+rank Name = 1
+rank Route = 2
+
+never : {A : Type 0} {i j : Held} (k : Held) → k ≡ i → k ≡ j → (rank i ≡ rank j → ⊥) → A
+never k e f h = absurd (h (ap rank (sym e ∙ f)))
 
 -- a part looked for and found, or lost there
 module _ (i j : ℕ) (f : Found) (n : ℕ) where
@@ -45,13 +54,13 @@ module _ (i j : ℕ) (f : Found) (n : ℕ) where
       onto (at m) = refl
       onto nowhere = refl
 
-  looked-found : (followed_of i j (found_of f) n).lost ≡ false → f ≡ at (followed_of i j (found_of f) n).node
+  looked-found : (m : ℕ) → (followed_of i j (found_of f) n).end ≡ Ok m → f ≡ at m
   unfolding followed_of found_of
-  looked-found = onto f
+  looked-found m = onto f
     where
-      onto : (g : Found) → (followed_of i j (found_of g) n).lost ≡ false → g ≡ at (followed_of i j (found_of g) n).node
-      onto (at m) e = refl
-      onto nowhere e = absurd (let z : ◌≡◌ {A = ℕ} 0 1 = cc in omega arith)
+      onto : (g : Found) → (followed_of i j (found_of g) n).end ≡ Ok m → g ≡ at m
+      onto (at k) e = ap at (ap (λ r. result_unwrap_or r 0) e)
+      onto nowhere e = absurd (true≢false (sym (ap is_ok e)))
 
 parts-snoc : (n : ℕ) (s : Placed) (ts : List Placed) (q : List Token) → parts n q (ts ▸ s) ≡ parts n q ts ++ (record { mention = use_of_node n ((q ++ all_bytes ts) ▸ s.bytes); place = s.place } ∷ [])
 unfolding parts all_bytes ◌▸◌
@@ -91,9 +100,9 @@ next-node : (d : Draft) (n m : ℕ) (t : Placed) (ts : List Placed) (s : Placed)
 unfolding node_of node_down all_bytes ◌▸◌
 next-node d n m t ts s e = down-snoc d s.bytes (all_bytes ts) (node_up d (suc n) n t.bytes) ∙ ap (λ f. node_down d f (s.bytes ∷ [])) e
 
-pub none : (p : Path) → p.lost ≡ false → lost_of p ≡ nowhere
+pub none : (p : Path) (m : ℕ) → p.end ≡ Ok m → lost_of p ≡ nowhere
 unfolding lost_of
-none p h = rw (h, lost_of)
+none p m h = rw (h, lost_of)
 
 next-followed : (d : Draft) (n : ℕ) (t : Placed) (ts : List Placed) (s : Placed) (i j m a : ℕ) (f : Option ℕ) → bad_mention d (parts n [] (t ∷ ts)) ≡ nowhere → node_of d n (all_bytes (t ∷ ts)) ≡ at m → f ≡ found_of (child_of d m s.bytes) → a ≡ s.place → Followed d n (t ∷ (ts ▸ s)) (followed_of i j f a)
 unfolding in_order
@@ -104,12 +113,12 @@ next-followed d n t ts s i j m a f o e k pl =
           ap (bad_mention d) (next-parts n t ts s) ∙ bad-later d (parts n [] (t ∷ ts)) (next_mention n t ts s ∷ []) o
           ∙ bad-one d (use_of_node n (all_bytes (t ∷ ts) ▸ s.bytes)) s.place
           ∙ ap (λ z. unless_of (is_found z) s.place) (next-node d n m t ts s e) ∙ looked-lost i j (child_of d m s.bytes) s.place;
-      found = λ z. ap (node_of d n) (next-bytes t ts s) ∙ next-node d n m t ts s e ∙ looked-found i j (child_of d m s.bytes) s.place z;
+      found = λ v z. ap (node_of d n) (next-bytes t ts s) ∙ next-node d n m t ts s e ∙ looked-found i j (child_of d m s.bytes) s.place v z;
     })
 
 module _ (u : List ℕ) (d : Draft) where
-  pub first_one : (n : ℕ) (p : Path) (f : Option ℕ) → p.held ≡ 1 → f ≡ found_of (node_up d (suc n) n (piece u p.from p.to)) → FirstPart u d n p (followed_of p.from p.to f p.from)
-  unfolding FirstPart PathIs parts followed_of
+  pub first_one : (n : ℕ) (p : Path) (f : Option ℕ) → p.held ≡ Name → f ≡ found_of (node_up d (suc n) n (piece u p.from p.to)) → FirstPart u d n p (followed_of p.from p.to f p.from)
+  unfolding FirstPart PathIs parts followed_of rank
   first_one n p f h e = (λ z. never p.held z h (λ y. omega arith), onto)
     where
       onto : (t : Placed) (ts : List Placed) → PathIs u d n (t ∷ ts) p → Whole u d n t ts (followed_of p.from p.to f p.from)
@@ -118,7 +127,7 @@ module _ (u : List ℕ) (d : Draft) where
           rw v (record { name = nm; place = pl; held = refl; followed = first-followed d n t p.from p.to f pl g })
       onto t ts (inr w) = never p.held w.held h (λ y. omega arith)
 
-  pub first-keep : (n : ℕ) (p : Path) → (p.held ≡ 1 → ⊥) → FirstPart u d n p p
+  pub first-keep : (n : ℕ) (p : Path) → (p.held ≡ Name → ⊥) → FirstPart u d n p p
   unfolding FirstPart PathIs
   first-keep n p h = (λ z. z, onto)
     where
@@ -126,39 +135,39 @@ module _ (u : List ℕ) (d : Draft) where
       onto t ts (inl (nm, pl, k, v)) = absurd (h k)
       onto t ts (inr w) = w
 
-  pub next-lost : (p : Path) (a e : ℕ) → p.lost ≡ true → NextPart u d p a e p
+  pub next-lost : (p : Path) (a e k : ℕ) → p.end ≡ Err k → NextPart u d p a e p
   unfolding NextPart lost_of
-  next-lost p a e h n t ts s w nm pl =
+  next-lost p a e k h n t ts s w nm pl =
       record {
         name = w.name;
         place = w.place;
         held = w.held;
         followed = record {
-          lost = ap (bad_mention d) (next-parts n t ts s) ∙ (bad-stays d (parts n [] (t ∷ ts)) (next_mention n t ts s ∷ []) p.stray (w.followed.lost ∙ rw (h, lost_of)) ∙ rw (h, lost_of));
-          found = λ z. absurd (let y : ◌≡◌ {A = Bool} true false = sym h ∙ z in let v : ◌≡◌ {A = ℕ} 0 1 = cc in omega arith);
+          lost = ap (bad_mention d) (next-parts n t ts s) ∙ (bad-stays d (parts n [] (t ∷ ts)) (next_mention n t ts s ∷ []) k (w.followed.lost ∙ rw (h, lost_of)) ∙ rw (h, lost_of));
+          found = λ v z. absurd (true≢false (ap is_ok (sym z ∙ h)));
         };
       }
 
-  pub next-on : (p : Path) (a e : ℕ) (f : Option ℕ) → p.lost ≡ false → f ≡ found_of (child_of d p.node (piece u a e)) → NextPart u d p a e (followed_of p.from p.to f a)
+  pub next-on : (p : Path) (a e v : ℕ) (f : Option ℕ) → p.end ≡ Ok v → f ≡ found_of (child_of d v (piece u a e)) → NextPart u d p a e (followed_of p.from p.to f a)
   unfolding NextPart lost_of followed_of
-  next-on p a e f h g n t ts s w nm pl =
-      let m : node_of d n (all_bytes (t ∷ ts)) ≡ at p.node = w.followed.found h in
-      let k : f ≡ found_of (child_of d p.node s.bytes) = g ∙ ap (λ x. found_of (child_of d p.node x)) nm in
-      record { name = w.name; place = w.place; held = refl; followed = next-followed d n t ts s p.from p.to p.node a f (w.followed.lost ∙ none p h) m k pl }
+  next-on p a e v f h g n t ts s w nm pl =
+      let m : node_of d n (all_bytes (t ∷ ts)) ≡ at v = w.followed.found v h in
+      let k : f ≡ found_of (child_of d v s.bytes) = g ∙ ap (λ x. found_of (child_of d v x)) nm in
+      record { name = w.name; place = w.place; held = refl; followed = next-followed d n t ts s p.from p.to v a f (w.followed.lost ∙ none p v h) m k pl }
 
   -- a question, by the path once it is followed
-  pub ask-none : (n : ℕ) (p q : Path) → FirstPart u d n p q → (q.held ≡ 2 → ⊥) → (ts : List Placed) → PathIs u d n ts p → bad_mention d (parts n [] ts) ≡ nowhere
+  pub ask-none : (n : ℕ) (p q : Path) → FirstPart u d n p q → (q.held ≡ Route → ⊥) → (ts : List Placed) → PathIs u d n ts p → bad_mention d (parts n [] ts) ≡ nowhere
   unfolding FirstPart parts bad_mention
   ask-none n p q f h [] c = refl
   ask-none n p q f h (t ∷ ts) c = absurd (h (f.1 t ts c).held)
 
-  pub ask-path : (n : ℕ) (p q : Path) → FirstPart u d n p q → q.held ≡ 2 → (ts : List Placed) → PathIs u d n ts p → bad_mention d (parts n [] ts) ≡ lost_of q
-  unfolding FirstPart PathIs
+  pub ask-path : (n : ℕ) (p q : Path) → FirstPart u d n p q → q.held ≡ Route → (ts : List Placed) → PathIs u d n ts p → bad_mention d (parts n [] ts) ≡ lost_of q
+  unfolding rank FirstPart PathIs
   ask-path n p q f h [] c = never q.held (f.0 c) h (λ y. omega arith)
   ask-path n p q f h (t ∷ ts) c = (f.1 t ts c).followed.lost
 
-  pub settle-none : (n : ℕ) (p : Path) → p.held ≡ 0 → (ts : List Placed) → PathIs u d n ts p → bad_mention d (settled_by n ts) ≡ nowhere
-  unfolding PathIs settled_by bad_mention
+  pub settle-none : (n : ℕ) (p : Path) → p.held ≡ Nothing → (ts : List Placed) → PathIs u d n ts p → bad_mention d (settled_by n ts) ≡ nowhere
+  unfolding rank PathIs settled_by bad_mention
   settle-none n p h [] c = refl
   settle-none n p h (t ∷ ts) (inl (nm, pl, k, v)) = never p.held k h (λ y. omega arith)
   settle-none n p h (t ∷ ts) (inr w) = never p.held w.held h (λ y. omega arith)
@@ -167,15 +176,20 @@ module _ (u : List ℕ) (d : Draft) where
   unfolding in_order
   settle-name n p t nm pl = bad-one d (use_of_variable n t.bytes) t.place ∙ rw (nm, pl)
 
-  pub settle-one : (n : ℕ) (p : Path) → (p.held ≡ 0 → ⊥) → (ts : List Placed) → PathIs u d n ts p → bad_mention d (settled_by n ts) ≡ unless_of (is_found (variable_of d n (piece u p.from p.to))) p.from
+  pub settle-one : (n : ℕ) (p : Path) → (p.held ≡ Nothing → ⊥) → (ts : List Placed) → PathIs u d n ts p → bad_mention d (settled_by n ts) ≡ unless_of (is_found (variable_of d n (piece u p.from p.to))) p.from
   unfolding PathIs settled_by
   settle-one n p h [] c = absurd (h c)
   settle-one n p h (t ∷ ts) (inl (nm, pl, k, v)) = settle-name n p t nm pl
   settle-one n p h (t ∷ ts) (inr w) = settle-name n p t w.name w.place
 
-pub lost-at : (p : Path) → p.lost ≡ true → lost_of p ≡ at p.stray
-unfolding lost_of
-lost-at p h = rw (h, lost_of)
+-- the place where a path is lost
+pub lost-at : (p : Path) → result_err p.end ≡ found_of (lost_of p)
+unfolding lost_of found_of
+lost-at p = onto p.end
+  where
+    onto : (r : Result ℕ ℕ) → result_err r ≡ found_of (elim r [ Ok n ↦ nowhere | Err k ↦ at k ])
+    onto (Ok n) = refl
+    onto (Err k) = refl
 
 pub unless-true : {t : Bool} (n : ℕ) → t ≡ true → nowhere ≡ unless_of t n
 unfolding unless_of

@@ -16,8 +16,9 @@ use Rattle.notation.specs.Draft.{Draft}
 use Rattle.notation.specs.Hearing.{◌▸◌, draft_of}
 use Rattle.notation.specs.Names.{bad_mention, bad_name}
 use Rattle.names.specs.declared.walk.Walk.{Walk}
-use Rattle.std.specs.Prelude.{Option, is_some}
+use Rattle.std.specs.Prelude.{Option, is_some, Ok}
 use Rattle.names.specs.declared.judge.Path.{Path}
+use Rattle.names.specs.declared.judge.Held.TheVariants.{Nothing}
 use Rattle.names.specs.Roles.{Role, role_of, role_number, detail_of, other, number, command, lookup, variable, named, unnamed, opens, shuts, call, assign, read, mention, descend, ask, settle}
 use Rattle.names.specs.Tale as Tale
 use Rattle.names.specs.Tale.{Tale, untold, list_of, here_in, tell, tell_of, settling}
@@ -267,7 +268,7 @@ pub all-fine : (u : List ℕ) (l : List (Said Saying)) (a : Accepted u l) (c o v
 unfolding bad_name
 all-fine u l a c o v p q h = let t = told u l a.says in ap (λ (b : Tale). bad_mention (draft_of l) b.mentions) t.view ∙ h.fine
 
-pub nothing-bad : (u : List ℕ) (d : Draft) → Upright u d 0 0 0 (record { held = 0; «from» = 0; to = 0; node = 0; lost = false; stray = 0 }) untold declaring
+pub nothing-bad : (u : List ℕ) (d : Draft) → Upright u d 0 0 0 (record { held = Nothing; «from» = 0; to = 0; «end» = Ok 0 }) untold declaring
 unfolding bad_mention PathIs HeldAt
 nothing-bad u d = record { commands = refl; lookups = refl; variables = refl; fine = refl; path = refl; held = refl }
 

@@ -1,5 +1,6 @@
 -- What a saying mentions, and the path that is held.
-use Rattle.std.specs.Prelude.{ℕ, suc, ◌+◌, ◌-◌, ◌≤◌, ◌<◌, ◌≡◌, ◌⊎◌, Bool, true, false, Option, unwrap_or, is_none, cond, eqb, List, [], ◌∷◌, length}
+use Rattle.std.specs.Prelude.{ℕ, suc, ◌+◌, ◌-◌, ◌≤◌, ◌<◌, ◌≡◌, ◌⊎◌, Bool, true, false, Option, Ok, Err, IfOk, cond, eqb, List, [], ◌∷◌, length}
+use Rattle.std.specs.Option.{ok_or}
 use Rattle.plexil.specs.Lists.{Found, at, nowhere}
 use Rattle.grammar.specs.Spelling.{Token, Placed}
 use Rattle.grammar.specs.Table.{Said}
@@ -10,6 +11,8 @@ use Rattle.notation.specs.Names.{child_of, node_up, node_of, bad_mention}
 use Rattle.recognise.specs.Hears.{piece}
 use Rattle.names.specs.declared.walk.Walk.{Walk}
 use Rattle.names.specs.declared.judge.Path.{Path}
+use Rattle.names.specs.declared.judge.Held.{Held}
+use Rattle.names.specs.declared.judge.Held.TheVariants.{Nothing, Name, Route}
 use Rattle.names.specs.Roles.{Role, role_of}
 use Rattle.names.specs.Tale.{Tale, list_of, here_in, parts, tell, tell_all}
 use Rattle.names.specs.Walking.{Tells}
@@ -44,30 +47,30 @@ new_of Role.settle t b = settled_by (here_in b) b.held
 
 -- the first part of a path that is not found
 unfoldable pub lost_of : Path → Found
-lost_of p = elim p.lost [ true ↦ at p.stray | false ↦ nowhere ]
+lost_of p = elim p.end [ Ok n ↦ nowhere | Err k ↦ at k ]
 
 -- the parts ts of a path have been followed from node n
 pub record Followed (d : Draft) (n : ℕ) (ts : List Placed) (p : Path) : Type 0 where
   pub lost : bad_mention d (parts n [] ts) ≡ lost_of p
-  pub found : p.lost ≡ false → node_of d n (all_bytes ts) ≡ at p.node
+  pub found : (m : ℕ) → p.end ≡ Ok m → node_of d n (all_bytes ts) ≡ at m
 
--- the first name of the path lies in the text, and the numbers are no largest ones
+-- the first name of the path lies in the text, and the number of the node at its end is no largest one
 pub record PathIn (u : List ℕ) (p : Path) : Type 0 where
   pub ordered : p.from ≤ p.to
   pub within : p.to ≤ length u
-  pub small : p.node < 18446744073709551615
+  pub small : IfOk p.end (λ n. n < 18446744073709551615)
 
 -- p is the path whose first part is t and whose others are ts, followed from node n
 pub record Whole (u : List ℕ) (d : Draft) (n : ℕ) (t : Placed) (ts : List Placed) (p : Path) : Type 0 where
   pub name : piece u p.from p.to ≡ t.bytes
   pub place : p.from ≡ t.place
-  pub held : p.held ≡ 2
+  pub held : p.held ≡ Route
   pub followed : Followed d n (t ∷ ts) p
 
 -- p is the held name or path, in node n: none, its first name alone, or followed to its end
 unfoldable pub PathIs : List ℕ → Draft → ℕ → List Placed → Path → Type 0
-PathIs u d n [] p = p.held ≡ 0
-PathIs u d n (t ∷ ts) p = ((piece u p.from p.to ≡ t.bytes) × (p.from ≡ t.place) × (p.held ≡ 1) × (ts ≡ [])) ⊎ Whole u d n t ts p
+PathIs u d n [] p = p.held ≡ Nothing
+PathIs u d n (t ∷ ts) p = ((piece u p.from p.to ≡ t.bytes) × (p.from ≡ t.place) × (p.held ≡ Name) × (ts ≡ [])) ⊎ Whole u d n t ts p
 
 -- a path's first part is sought upwards from node n, each later one among its children
 unfoldable pub part_of : Bool → Draft → ℕ → Token → Found
@@ -89,11 +92,11 @@ unless_of false n = at n
 
 -- the path after a name has been looked for
 unfoldable pub followed_of : ℕ → ℕ → Option ℕ → ℕ → Path
-followed_of i j f n = record { held = 2; «from» = i; to = j; node = unwrap_or f 0; lost = is_none f; stray = n }
+followed_of i j f n = record { held = Route; «from» = i; to = j; «end» = ok_or f n }
 
 -- a name alone, or none
-unfoldable pub held_from : ℕ → ℕ → ℕ → Path
-held_from k i j = record { held = k; «from» = i; to = j; node = 0; lost = false; stray = 0 }
+unfoldable pub held_from : Held → ℕ → ℕ → Path
+held_from k i j = record { held = k; «from» = i; to = j; «end» = Ok 0 }
 
 -- the name that the walk has heard lies in the text
 pub record WalkIn (u : List ℕ) (w : Walk) : Type 0 where

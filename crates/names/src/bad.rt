@@ -8,7 +8,7 @@ ghost use Rattle.names.specs.Answers.{Accepted, found_of, tale_said};
 ghost use Rattle.names.specs.Tables.{Prepared};
 ghost use Rattle.names.specs.Judging.{index_no, count_no};
 
-use super::judge::held_from;
+use super::judge::{Held, held_from};
 use super::table::Tables;
 use super::walk::{here, start, step};
 
@@ -44,7 +44,7 @@ pub fn bad_name<'a>(tables: Tables<'a>) -> Option<usize>
 {
     let mut lists = [0usize; 16];
     let mut w = start(tables.owner);
-    let mut p = held_from(0, 0, 0);
+    let mut p = held_from(Held::Nothing, 0, 0);
     let mut commands: usize = 0;
     let mut lookups: usize = 0;
     let mut variables: usize = 0;

@@ -15,16 +15,22 @@ ghost use Rattle.names.specs.Judging.{part_of, settled_by, PathIs, WalkIn, held_
 use super::table::Tables;
 use super::walk::{Walk, here};
 
-// A held name or path: 0 none, 1 a name, 2 a path that has been followed. Its first name stands from `from` to `to`; `node` is where it leads,
-// if it is not lost; it is lost at the place of the first part that is not found.
+// What is held: nothing, a name alone, or a path that has been followed.
+#[derive(Clone, Copy)]
+pub enum Held {
+    Nothing,
+    Name,
+    Route,
+}
+
+// A held name or path. Its first name stands from `from` to `to`; a path ends at the node where it leads, or it is lost at the place of its first
+// part that is not found.
 #[derive(Clone, Copy)]
 pub struct Path {
     pub from: usize,
     pub to: usize,
-    pub node: usize,
-    pub stray: usize,
-    pub held: u8,
-    pub lost: bool,
+    pub held: Held,
+    pub end: Result<usize, usize>,
 }
 
 // A name at the place, if it is not in order.
@@ -43,26 +49,22 @@ fn followed(from: usize, to: usize, f: Option<usize>, place: usize) -> Path
     ensures { result ≡ followed_of from to f place }
 {
     Path {
-        held: 2,
+        held: Held::Route,
         from,
         to,
-        node: f.unwrap_or(0),
-        lost: f.is_none(),
-        stray: place,
+        end: f.ok_or(place),
     }
 }
 
 // A name alone, or none.
-pub fn held_from(held: u8, from: usize, to: usize) -> Path
+pub fn held_from(held: Held, from: usize, to: usize) -> Path
     ensures { result ≡ held_from held from to }
 {
     Path {
         held,
         from,
         to,
-        node: 0,
-        lost: false,
-        stray: 0,
+        end: Ok(0),
     }
 }
 
@@ -94,13 +96,15 @@ impl<'a> Tables<'a> {
         requires { (n < 18446744073709551615) × PathIn self.text.now p }
         ensures { ((l : List (Said Saying)) → Accepted self.entry.text.now l → Prepared self.entry l → FirstPart self.entry.text.now (draft_of l) n p result) × PathIn self.entry.text.now result }
     {
-        if p.held == 1 {
-            let a = p.from;
-            let e = p.to;
-            let f = self.sought(true, n, &self.text[a..e]);
-            return followed(a, e, f, a);
+        match p.held {
+            Held::Name => {
+                let a = p.from;
+                let e = p.to;
+                let f = self.sought(true, n, &self.text[a..e]);
+                followed(a, e, f, a)
+            }
+            _ => p,
         }
-        p
     }
 
     // A path followed one part further.
@@ -108,11 +112,13 @@ impl<'a> Tables<'a> {
         requires { (a ≤ e) × (e ≤ length self.text.now) × PathIn self.text.now p }
         ensures { ((l : List (Said Saying)) → Accepted self.entry.text.now l → Prepared self.entry l → NextPart self.entry.text.now (draft_of l) p a e result) × PathIn self.entry.text.now result }
     {
-        if p.lost {
-            return p;
+        match p.end {
+            Ok(node) => {
+                let f = self.sought(false, node, &self.text[a..e]);
+                followed(p.from, p.to, f, a)
+            }
+            Err(_) => p,
         }
-        let f = self.sought(false, p.node, &self.text[a..e]);
-        followed(p.from, p.to, f, a)
     }
 
     // A question ends a path: each part is a mention.
@@ -121,13 +127,10 @@ impl<'a> Tables<'a> {
         ensures { (l : List (Said Saying)) → Accepted self.entry.text.now l → Prepared self.entry l → (ts : List Placed) → PathIs self.entry.text.now (draft_of l) n ts p → result ≡ found_of (bad_mention (draft_of l) (parts n [] ts)) }
     {
         let q = self.path_first(n, p);
-        if q.held != 2 {
-            return None;
+        match q.held {
+            Held::Route => q.end.err(),
+            _ => None,
         }
-        if q.lost {
-            return Some(q.stray);
-        }
-        None
     }
 
     // A held name was a variable's.
@@ -135,13 +138,15 @@ impl<'a> Tables<'a> {
         requires { PathIn self.text.now p }
         ensures { (l : List (Said Saying)) → Accepted self.entry.text.now l → Prepared self.entry l → (ts : List Placed) → PathIs self.entry.text.now (draft_of l) n ts p → result ≡ found_of (bad_mention (draft_of l) (settled_by n ts)) }
     {
-        if p.held == 0 {
-            return None;
+        match p.held {
+            Held::Nothing => None,
+            _ => {
+                let a = p.from;
+                let e = p.to;
+                let f = self.variable_of(n, &self.text[a..e]);
+                unless(f.is_some(), a)
+            }
         }
-        let a = p.from;
-        let e = p.to;
-        let f = self.variable_of(n, &self.text[a..e]);
-        unless(f.is_some(), a)
     }
 
     // What a saying mentions is in order; i is the number of what it declares.
@@ -186,17 +191,17 @@ impl<'a> Tables<'a> {
         let a = w.from;
         let e = w.to;
         if role == 10 {
-            return held_from(1, a, e);
+            return held_from(Held::Name, a, e);
         }
         if role == 11 {
             let q = self.path_first(here(w.nodes), p);
             return self.path_next(q, a, e);
         }
         if role == 12 {
-            return held_from(0, 0, 0);
+            return held_from(Held::Nothing, 0, 0);
         }
         if role == 13 {
-            return held_from(0, 0, 0);
+            return held_from(Held::Nothing, 0, 0);
         }
         p
     }

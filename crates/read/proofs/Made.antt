@@ -1,6 +1,6 @@
 -- What a call leaves: a refusal of the survey, or what is delivered of the image that was made.
 use Prim.Native.Nat.{ℕ, ◌≤◌}
-use mathlib.Core.Path.{◌≡◌, sym, ap, ◌∙◌, subst}
+use mathlib.Core.Path.{◌≡◌, refl, sym, ap, ◌∙◌, subst}
 use mathlib.Core.Logic.{◌≢◌}
 use mathlib.Core.Bool.{true}
 use mathlib.Core.List.{List}
@@ -22,7 +22,8 @@ use Rattle.names.specs.Answers.{Accepted, tale_said}
 use Rattle.names.specs.Tables.{Filled}
 use Rattle.read.specs.declared.reply.ReadReply.{ReadReply}
 use Rattle.read.specs.declared.surveying.Overview.{Overview}
-use Rattle.read.specs.Survey.{Foretells, Surveyed}
+use Rattle.read.specs.Reply.{made_reply}
+use Rattle.read.specs.Survey.{survey_of, Foretells, Looked}
 use Rattle.read.proofs.Foretold.{survey-foretells}
 use Rattle.read.proofs.Handed.{Leaves, refuses}
 
@@ -49,22 +50,22 @@ pub record Made (u old : List ℕ) (made : ℕ) (after : List ℕ) : Type 0 wher
   pub room : made ≤ length old
   pub reply : read_reply u old ≡ judged (verdict (take made after)) (take made after) old
 
-module _ (u old fs ts os : List ℕ) (s : Overview) (t : Surveyed u (length old) fs ts os s) where
-  foretold : Foretells u old s.reply
-  foretold = subst (Foretells u old) (sym t.reply) (survey-foretells u old)
+module _ (u old : List ℕ) (r : ReadReply) (e : r ≡ survey_of u (length old)) where
+  pub foretold : Foretells u old r
+  foretold = subst (Foretells u old) (sym e) (survey-foretells u old)
 
-  pub survey-refused : s.reply.number ≢ 0 → Leaves s.reply old (read_reply u old)
-  survey-refused h =
-      refuses s.reply s.reply.number s.reply.place old (read_reply u old) (ap (λ n. record { number = s.reply.number; place = s.reply.place; made = n }) (foretold.nothing h)) (foretold.refuses h)
+  pub survey-refused : r.number ≢ 0 → Leaves r old (read_reply u old)
+  survey-refused h = refuses r r.number r.place old (read_reply u old) (ap (λ n. record { number = r.number; place = r.place; made = n }) (foretold.nothing h)) (foretold.refuses h)
 
-  pub image-made : (after : List ℕ) → s.reply.number ≡ 0 → Built u s.seen fs ts os s.told after → Made u old s.reply.made after
-  image-made after h b =
-      let p = foretold.passes h in
+module _ (u old fs ts os : List ℕ) (s : Overview) (t : Looked u (length old) fs ts os s) where
+  pub image-made : (after : List ℕ) → Built u s.seen fs ts os s.told after → Made u old s.made after
+  image-made after b =
+      let p = (foretold u old (made_reply s.made) t.reply).passes refl in
       let l = p.0 in
       let q = p.1 in
-      let f = t.found h l q.accepted in
+      let f = t.found l q.accepted in
       let m = b l q.accepted f.0 f.1 q.counted in
-      let same : take s.reply.made after ≡ image_of (draft_of l) = ap (λ n. take n after) q.long ∙ m.0 in
+      let same : take s.made after ≡ image_of (draft_of l) = ap (λ n. take n after) q.long ∙ m.0 in
       record {
         size = m.1;
         within = omega (arith, q.long, most-bytes (draft_of l) q.counted);

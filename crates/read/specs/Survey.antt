@@ -1,5 +1,5 @@
 -- The stages of a reading before there is an image: what they answer, and what the whole reply is after them.
-use Rattle.std.specs.Prelude.{ℕ, ◌≤◌, ◌≡◌, ◌≢◌, true, List, length, ltb}
+use Rattle.std.specs.Prelude.{ℕ, ◌≤◌, ◌≡◌, ◌≢◌, true, List, length, ltb, Result, Ok, Err, MatchResult}
 use Rattle.std.proofs.Math.Option.{Option, none, some}
 use Rattle.plexil.specs.Lists.{when◌then◌else◌, Found, at, nowhere}
 use Rattle.plexil.specs.Check.{verdict}
@@ -58,12 +58,25 @@ pub record Foretells (u old : List ℕ) (r : ReadReply) : Type 0 where
 abbrev pub SurveyForetells : Type 0
 SurveyForetells = (u old : List ℕ) → Foretells u old (survey_of u (length old))
 
--- what a survey has found: the reply so far; and for a text that passes its counts and the tables of its declarations
-pub record Surveyed (u : List ℕ) (room : ℕ) (fs ts os : List ℕ) (s : Overview) : Type 0 where
-  pub reply : s.reply ≡ survey_of u room
-  pub found : s.reply.number ≡ 0 → (l : List (Said Saying)) → Accepted u l → (s.seen ≡ accepted_as (draft_of l)) × Filled u (tale_said l) fs ts os s.told
+-- the reply so far, of a length or of a refusal
+unfoldable pub reply_by : Result ℕ ReadReply → ReadReply
+reply_by (Ok n) = made_reply n
+reply_by (Err r) = r
+
+-- a refusal has a number
+abbrev pub Refuses : Result ℕ ReadReply → Type 0
+Refuses o = MatchResult o (λ n. Unit {0}) (λ r. r.number ≢ 0)
+
+-- what a look over a text that passes has found: the reply so far, its counts, and the tables of its declarations
+pub record Looked (u : List ℕ) (room : ℕ) (fs ts os : List ℕ) (s : Overview) : Type 0 where
+  pub reply : made_reply s.made ≡ survey_of u room
+  pub found : (l : List (Said Saying)) → Accepted u l → (s.seen ≡ accepted_as (draft_of l)) × Filled u (tale_said l) fs ts os s.told
+
+-- what a survey answers: a refusal, or what it has found
+abbrev pub Surveyed : List ℕ → ℕ → List ℕ → List ℕ → List ℕ → Result Overview ReadReply → Type 0
+Surveyed u room fs ts os o = MatchResult o (λ s. Looked u room fs ts os s) (λ r. (r ≡ survey_of u room) × (r.number ≢ 0))
 
 -- opens every definition of this file
 unfoldable pub opened : Unit {0}
-unfolding measured_by named_by levelled_by heard_by survey_of
+unfolding measured_by named_by levelled_by heard_by survey_of reply_by
 opened = tt

@@ -14,11 +14,10 @@ pub fn read(text: &[u8], image: &mut [u8]) -> ReadReply
     let mut from = [0usize; 704];
     let mut to = [0usize; 704];
     let mut owner = [0usize; 10525];
-    let found = survey(text, image.len(), &mut from, &mut to, &mut owner);
-    let reply = found.reply;
-    if reply.number != 0 {
-        return reply;
-    }
+    let found = match survey(text, image.len(), &mut from, &mut to, &mut owner) {
+        Ok(found) => found,
+        Err(refusal) => return refusal,
+    };
     let mut scratch = [0u8; 41108];
     let names = Tables {
         text,
@@ -28,5 +27,5 @@ pub fn read(text: &[u8], image: &mut [u8]) -> ReadReply
         told: found.told,
     };
     build::build(names, found.seen, &mut scratch);
-    delivered(&scratch, reply.made, image)
+    delivered(&scratch, found.made, image)
 }

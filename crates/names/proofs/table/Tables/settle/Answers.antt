@@ -9,9 +9,9 @@ use Rattle.names.proofs.Paths.{settle-none, settle-one}
 use Rattle.names.proofs.Judgements.{answer-found}
 use Rattle.names.proofs.table.Tables.settle.Goals as goal
 
-pub returns-then-p-eq0 : goal.returns-then-p-eq0
-returns-then-p-eq0 c = λ l a r ts z. none-is ∙ ap found_of (sym (settle-none _ (draft_of l) _ _ c.if-p-eq0.true ts z))
+pub returns-in-Nothing : goal.returns-in-Nothing
+returns-in-Nothing c = λ l a r ts z. none-is ∙ ap found_of (sym (settle-none _ (draft_of l) _ _ c.in-Nothing.is ts z))
 
-pub returns : goal.returns
+pub returns-in_default : goal.returns-in_default
 unfolding piece
-returns c = λ l a r ts z. c.unless.ensures ∙ ap (λ t. found_of (unless_of t c.args.p.from)) (c.is_some.ensures ∙ answer-found _ _ (c.variable_of-f.ensures l a r)) ∙ ap found_of (sym (settle-one _ (draft_of l) _ _ c.if-p-eq0.false ts z))
+returns-in_default c = λ l a r ts z. c.unless.ensures ∙ ap (λ t. found_of (unless_of t c.args.p.from)) (c.is_some.ensures ∙ answer-found _ _ (c.variable_of-f.ensures l a r)) ∙ ap found_of (sym (settle-one _ (draft_of l) _ _ c.in_default.not-Nothing ts z))
