@@ -6,7 +6,7 @@ ghost use Rattle.plexil.specs.Searches.{found_of};
 ghost use Rattle.records.specs.Broken.{lowest_broken};
 ghost use Rattle.admit.specs.Depth.{Depth, Passed, Filled};
 
-// "A leaf has depth 1, an operator one more than its deepest operand"
+// "A leaf has depth 1, an operator one more than its deepest operand". Operators below 6 are leaves, 6 is NOT: image::operator, a public function, answers the number.
 fn depth<'a>(image: &'a [u8], depths: &'a [u8; 2048], e: u16) -> u8
     requires passed { Passed image.now }
     requires e_bound { e < expr_count image.now }

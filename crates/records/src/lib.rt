@@ -1,4 +1,5 @@
 // Refusals 1 to 9: the header, the tree of nodes, and each record by itself.
+// good_what, good_constant and good_operator match numbers: what may not change, image's public functions answer bytes, and any byte can stand in an image.
 #![tactic(auto, unfolding(plexil::specs::Lists::opened, plexil::specs::Records::opened, plexil::specs::Check::opened))]
 
 mod conditions;
