@@ -30,6 +30,7 @@ pub fn condition(
     cell_value(tags, bits, e)
 }
 
+// holds and fails are values::says with True and with False: the one function is that.
 pub fn holds(image: &[u8], tags: &[u8], bits: &[u64], i: u16, c: Condition, normal: bool) -> bool
     ensures { (s : State) → IsTable image.now s tags.now bits.now → i < node_count image.now → result ≡ says true (condition_or image.now (seen s) i c normal) }
 {

@@ -112,7 +112,7 @@ fn sent_on(image: &[u8], mk: &[u8], i: u16, a: Status) -> u8
     }
 }
 
-// 0 nothing, 1 the command's word, 2 an abort.
+// 0 nothing, 1 the command's word, 2 an abort. A number, as the definition sent_by has it and the array of a step's words keeps it.
 pub fn sent_by(image: &[u8], mk: &[u8], i: u16, m: Move) -> u8
     ensures { (s : State) → s.mark ≡ mk.now → result ≡ sent_by image.now s i m }
 {

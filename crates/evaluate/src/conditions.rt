@@ -18,6 +18,7 @@ pub fn condition(image: &[u8], seen: &Seen, i: u16, c: Condition, normal: bool) 
     value_of(image, seen, e)
 }
 
+// holds and fails are values::says with True and with False: the one function is that.
 pub fn holds(image: &[u8], seen: &Seen, i: u16, c: Condition, normal: bool) -> bool
     ensures { result ≡ says true (condition_or image.now (seen_in seen.now) i c normal) }
 {

@@ -5,7 +5,8 @@ ghost use Rattle.plexil.specs.Carried.{carry_in};
 
 use super::State;
 
-// The cell that leads variable v is (tags[v], bits[v]), node[v]'s; top[v] is one more than its priority, 0 where no writer was met.
+// The cell that leads variable v is (tags[v], bits[v]), node[v]'s; top[v] is one more than its priority, 0 where no writer was met. Arrays side by side, as the
+// definition Carry (specs/Order) has lists: with one array of leaders every contract would be a map over it, which is no plainer.
 #[derive(Clone, Copy)]
 pub struct Carry {
     pub status: [u8; 256],

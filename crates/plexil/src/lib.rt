@@ -31,14 +31,14 @@ pub enum Pair {
     Reals(f64, f64),
 }
 
-// A kept value: the tag is 0 for Unknown, else one more than the kind; Unknown has bits 0.
+// A kept value: the tag is 0 for Unknown, else one more than the kind; Unknown has bits 0. An Option of a kind and bits would not be what C lends.
 #[derive(Clone, Copy)]
 pub struct Cell {
     pub tag: u8,
     pub bits: u64,
 }
 
-// A state. The cell of variable v is (vartags[v], varbits[v]), that of lookup l (looktags[l], lookbits[l]).
+// A state. The cell of variable v is (vartags[v], varbits[v]), that of lookup l (looktags[l], lookbits[l]). Arrays side by side and codes as numbers, since C lends it so.
 #[repr(C)]
 #[derive(Clone, Copy)]
 pub struct State {
@@ -94,7 +94,7 @@ pub enum Condition {
     Repeat,
 }
 
-// What a rule makes of outcome and failure. Failed has the outcome and the failure; Judged: IterationEnded through End or Finishing.
+// What a rule makes of outcome and failure. Failed has the outcome and the failure, by the codes that a state keeps; Judged: IterationEnded through End or Finishing.
 #[derive(Clone, Copy)]
 pub enum Effect {
     Kept,
@@ -104,7 +104,7 @@ pub enum Effect {
     Judged,
 }
 
-// What a node does in a micro step. Stay: no rule applies.
+// What a node does in a micro step. Stay: no rule applies. An enum of its own and no Option: what may not change, the definition move_of and the theorems on it speak of Stay and Go.
 #[derive(Clone, Copy)]
 pub enum Move {
     Stay,
@@ -137,7 +137,8 @@ pub enum Rule {
     Reach,
 }
 
-// The check's verdict: the lowest broken rule, with the lowest record number that breaks it.
+// The check's verdict: the lowest broken rule, with the lowest record number that breaks it. An enum of its own and no Result: what may not change, the definition
+// verdict and the theorems on it (refused-exact, admitted-exact) speak of Admitted and Refused.
 #[derive(Clone, Copy)]
 pub enum Verdict {
     Admitted,
