@@ -1,4 +1,5 @@
 // The machine that follows a text of the notation, token by token: what is still to come is told by a position, a set and two counts.
+// Positions, marks, classes and sayings are numbers, as the definitions of specs/Positions, specs/Hears and specs/Codes have them.
 #![tactic(auto)]
 
 mod counting;

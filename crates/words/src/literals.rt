@@ -1,4 +1,5 @@
-// The words and signs of the notation, by their length: each is followed by its class.
+// The words and signs of the notation, by their length: each is followed by its class. For what is none of them the definitions `found_in` and
+// `literal_class` have 67, the class of names.
 ghost use Rattle.std.specs.Prelude.{◌≡◌};
 ghost use Rattle.words.specs.Groups.{found_in, literal_class};
 
