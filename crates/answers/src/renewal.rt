@@ -3,7 +3,7 @@ ghost use Rattle.std.specs.Prelude.{◌≡◌, ◌<◌, ◌≤◌, length};
 ghost use Rattle.plexil.specs.declared.State.{State};
 ghost use Rattle.plexil.specs.Image.{exprs_at, expr_count};
 ghost use Rattle.plexil.specs.Places.{seen};
-ghost use Rattle.plexil.specs.Lent.{seen_in};
+ghost use Rattle.plexil.specs.Lent.{seen_lent};
 ghost use Rattle.plexil.specs.Expressions.{value_of};
 ghost use Rattle.plexil.specs.Promises.{IsAdmitted, IsKept};
 ghost use Rattle.answers.specs.Table.{answer, IsTable};
@@ -46,7 +46,7 @@ fn entry_anew(
 ) -> Renewed
     requires { IsAdmitted image.now × (base ≡ exprs_at image.now) × (base < 2000000) × (e < expr_count image.now) }
     ensures { (s t : State) → IsKept image.now s → IsKept image.now t
-        → seen t ≡ seen_in lent.now
+        → seen t ≡ seen_lent lent.now
         → Covers (seen s) (seen t) altered.now → Upto image.now (seen s) (seen t) e tags.now bits.now
         → Unchanged image.now (seen s) (seen t) changed.now e → old ≡ answer image.now (seen s) e
         → (result.cell ≡ answer image.now (seen t) e) × (result.changed ≡ 0 → value_of image.now (seen s) e ≡ value_of image.now (seen t) e) }
@@ -78,7 +78,7 @@ pub fn refresh(
 )
     requires { IsAdmitted image.now × (lo ≤ expr_count image.now) × (hi ≤ expr_count image.now) × (length tags.old ≡ 2048) × (length bits.old ≡ 2048) × (length changed.old ≡ 2048) }
     ensures { (s t : State) → IsTable image.now s tags.old bits.old → IsKept image.now t
-        → seen t ≡ seen_in lent.now
+        → seen t ≡ seen_lent lent.now
         → Covers (seen s) (seen t) altered.now → Outside image.now (seen s) (seen t) lo hi
         → IsTable image.now t tags.new bits.new × Unchanged image.now (seen s) (seen t) changed.new (expr_count image.now) }
 {

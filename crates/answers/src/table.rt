@@ -2,7 +2,7 @@
 ghost use Rattle.std.specs.Prelude.{◌≡◌, length};
 ghost use Rattle.plexil.specs.declared.State.{State};
 ghost use Rattle.plexil.specs.Places.{seen};
-ghost use Rattle.plexil.specs.Lent.{seen_in};
+ghost use Rattle.plexil.specs.Lent.{seen_lent};
 ghost use Rattle.plexil.specs.Promises.{IsAdmitted, IsKept};
 ghost use Rattle.answers.specs.Table.{IsTable};
 
@@ -11,7 +11,7 @@ use plexil::Seen;
 
 pub fn fill(image: &[u8], lent: &Seen, tags: &mut [u8; 2048], bits: &mut [u64; 2048])
     requires { IsAdmitted image.now × (length tags.old ≡ 2048) × (length bits.old ≡ 2048) }
-    ensures { (s : State) → seen s ≡ seen_in lent.now → IsKept image.now s
+    ensures { (s : State) → seen s ≡ seen_lent lent.now → IsKept image.now s
         → IsTable image.now s tags.new bits.new }
 {
     let base = image::exprs_at(image);

@@ -5,7 +5,7 @@ ghost use Rattle.plexil.specs.declared.Effect.{Effect};
 ghost use Rattle.plexil.specs.declared.Effect.TheVariants as effect;
 ghost use Rattle.plexil.specs.declared.Move.TheVariants as move;
 ghost use Rattle.plexil.specs.Lists.{every};
-ghost use Rattle.plexil.specs.Lent.{state_in};
+ghost use Rattle.plexil.specs.Lent.{state_lent};
 ghost use Rattle.plexil.specs.Records.{is_writer};
 ghost use Rattle.plexil.specs.Micro.{is_judged, judges, mark_by, ending_by, place_by, sent_by, stays};
 ghost use Rattle.atomic.specs.Ending.{ending_of};
@@ -14,7 +14,7 @@ use plexil::{Before, Condition, Effect, Move, Place, Status, get_or};
 
 // "The mark clears on leaving for IterationEnded"; "Executing (a command issues its word, mark clear)"
 fn mark_by(before: &Before, i: u16, a: Status) -> u8
-    ensures { result ≡ mark_by (state_in before.now) i a }
+    ensures { result ≡ mark_by (state_lent before.now) i a }
 {
     match a {
         Status::IterationEnded | Status::Executing => 0,
@@ -31,7 +31,7 @@ pub struct Ending {
 
 // "gives Success, failure none, if Post is True, else Failure, Post"
 fn judged(image: &[u8], before: &Before, i: u16) -> Ending
-    ensures { result ≡ ending_of (ending_by image.now (state_in before.now) i effect.Judged) }
+    ensures { result ≡ ending_of (ending_by image.now (state_lent before.now) i effect.Judged) }
 {
     if evaluate::holds(image, &before.seen, i, Condition::Post, true) {
         return Ending {
@@ -47,7 +47,7 @@ fn judged(image: &[u8], before: &Before, i: u16) -> Ending
 
 // What an effect makes of them.
 fn ending_by(image: &[u8], before: &Before, i: u16, e: Effect) -> Ending
-    ensures { result ≡ ending_of (ending_by image.now (state_in before.now) i e) }
+    ensures { result ≡ ending_of (ending_by image.now (state_lent before.now) i e) }
 {
     match e {
         Effect::Kept => Ending {
@@ -72,7 +72,7 @@ fn ending_by(image: &[u8], before: &Before, i: u16, e: Effect) -> Ending
 
 // Status a with effect e.
 fn gone(image: &[u8], before: &Before, i: u16, a: Status, e: Effect) -> Place
-    ensures { result ≡ place_by image.now (state_in before.now) i (move.Go a e) }
+    ensures { result ≡ place_by image.now (state_lent before.now) i (move.Go a e) }
 {
     let r = ending_by(image, before, i, e);
     Place {
@@ -85,7 +85,7 @@ fn gone(image: &[u8], before: &Before, i: u16, a: Status, e: Effect) -> Place
 
 // "What a rule does not name stays"
 pub fn place_by(image: &[u8], before: &Before, i: u16, m: Move) -> Place
-    ensures { result ≡ place_by image.now (state_in before.now) i m }
+    ensures { result ≡ place_by image.now (state_lent before.now) i m }
 {
     match m {
         Move::Stay => Place {

@@ -3,7 +3,7 @@ ghost use Rattle.std.specs.Prelude.{◌≡◌, not, ◌∷◌, []};
 ghost use Rattle.plexil.specs.declared.Status.TheVariants as status;
 ghost use Rattle.plexil.specs.declared.Condition.TheVariants as condition;
 ghost use Rattle.plexil.specs.Lists.{every};
-ghost use Rattle.plexil.specs.Lent.{seen_in, state_in};
+ghost use Rattle.plexil.specs.Lent.{seen_lent, state_lent};
 ghost use Rattle.plexil.specs.Places.{same};
 ghost use Rattle.plexil.specs.Atomic.{children_by, children, is_finished, is_resting, is_off, from_waiting, fails_by, at_end, settled, from_ended, default_of, by_status, move_of};
 
@@ -13,7 +13,7 @@ use plexil::{Before, Condition, Effect, Move, Seen, Status, get_or};
 
 // "Skip True, then Finished, Skipped. Else Start True: Pre True, then Executing ..; otherwise IterationEnded, Failure, Pre"
 fn from_waiting(image: &[u8], seen: &Seen, i: u16) -> Move
-    ensures { result ≡ from_waiting image.now (seen_in seen.now) i }
+    ensures { result ≡ from_waiting image.now (seen_lent seen.now) i }
 {
     if evaluate::holds(image, seen, i, Condition::Skip, false) {
         return Move::Go(Status::Finished, Effect::Skipped);
@@ -39,7 +39,7 @@ fn fails_by(image: &[u8], i: u16, outcome: u8, failure: u8) -> Move
 
 // "a list goes to Finishing; a returned command goes to IterationEnded; an assignment writes and goes to IterationEnded"
 fn at_end(image: &[u8], before: &Before, i: u16) -> Move
-    ensures { result ≡ at_end image.now (state_in before.now) i }
+    ensures { result ≡ at_end image.now (state_lent before.now) i }
 {
     match image::node_type(image, i) {
         0 => Move::Go(Status::Finishing, Effect::Kept),
@@ -55,15 +55,15 @@ fn at_end(image: &[u8], before: &Before, i: u16) -> Move
 // "End True, but for a list all children Finished"
 fn end_default(image: &[u8], seen: &Seen, i: u16, finished: bool) -> bool
     requires { finished ≡ children_by image.now seen.now.status.now i is_finished }
-    ensures { result ≡ default_of image.now (seen_in seen.now) i condition.End }
+    ensures { result ≡ default_of image.now (seen_lent seen.now) i condition.End }
 {
     image::node_type(image, i) != 0 || finished
 }
 
 // "parent Failing gives failure Parent; else Inv False gives Invariant"; else End True
 fn from_executing(image: &[u8], before: &Before, i: u16, u: Status, finished: bool) -> Move
-    requires { finished ≡ children image.now (state_in before.now) i is_finished }
-    ensures { result ≡ by_status status.Executing u image.now (state_in before.now) i }
+    requires { finished ≡ children image.now (state_lent before.now) i is_finished }
+    ensures { result ≡ by_status status.Executing u image.now (state_lent before.now) i }
 {
     if u == Status::Failing {
         return fails_by(image, i, 2, 4);
@@ -85,8 +85,8 @@ fn from_executing(image: &[u8], before: &Before, i: u16, u: Status, finished: bo
 
 // "the same two failures to Failing; else all children Waiting or Finished: IterationEnded"
 fn from_finishing(image: &[u8], before: &Before, i: u16, u: Status, resting: bool) -> Move
-    requires { resting ≡ children image.now (state_in before.now) i is_resting }
-    ensures { result ≡ by_status status.Finishing u image.now (state_in before.now) i }
+    requires { resting ≡ children image.now (state_lent before.now) i is_resting }
+    ensures { result ≡ by_status status.Finishing u image.now (state_lent before.now) i }
 {
     if u == Status::Failing {
         return fails_by(image, i, 2, 4);
@@ -102,8 +102,8 @@ fn from_finishing(image: &[u8], before: &Before, i: u16, u: Status, resting: boo
 
 // "list with all children Waiting or Finished, or command returned: IterationEnded, outcome kept"
 fn is_settled(image: &[u8], before: &Before, i: u16, resting: bool) -> bool
-    requires { resting ≡ children image.now (state_in before.now) i is_resting }
-    ensures { result ≡ settled image.now (state_in before.now) i }
+    requires { resting ≡ children image.now (state_lent before.now) i is_resting }
+    ensures { result ≡ settled image.now (state_lent before.now) i }
 {
     match image::node_type(image, i) {
         0 => resting,
@@ -114,7 +114,7 @@ fn is_settled(image: &[u8], before: &Before, i: u16, resting: bool) -> bool
 
 // "parent Finishing or Failing: Finished. Parent Executing: Repeat True gives Waiting, outcome and failure cleared; else Finished"
 fn from_ended(image: &[u8], seen: &Seen, i: u16, u: Status) -> Move
-    ensures { result ≡ from_ended u image.now (seen_in seen.now) i }
+    ensures { result ≡ from_ended u image.now (seen_lent seen.now) i }
 {
     if is_closing(u) {
         return Move::Go(Status::Finished, Effect::Kept);
@@ -138,9 +138,9 @@ fn by_status(
     finished: bool,
     resting: bool,
 ) -> Move
-    requires finished_value { finished ≡ children image.now (state_in before.now) i is_finished }
-    requires resting_value { resting ≡ children image.now (state_in before.now) i is_resting }
-    ensures { result ≡ by_status own u image.now (state_in before.now) i }
+    requires finished_value { finished ≡ children image.now (state_lent before.now) i is_finished }
+    requires resting_value { resting ≡ children image.now (state_lent before.now) i is_resting }
+    ensures { result ≡ by_status own u image.now (state_lent before.now) i }
 {
     match own {
         Status::Inactive => {
@@ -183,9 +183,9 @@ fn is_cut_off(own: Status, u: Status) -> bool
 
 // "First rule that applies"
 pub fn move_of(image: &[u8], before: &Before, i: u16, finished: bool, resting: bool) -> Move
-    requires finished_value { finished ≡ children image.now (state_in before.now) i is_finished }
-    requires resting_value { resting ≡ children image.now (state_in before.now) i is_resting }
-    ensures { result ≡ move_of image.now (state_in before.now) i }
+    requires finished_value { finished ≡ children image.now (state_lent before.now) i is_finished }
+    requires resting_value { resting ≡ children image.now (state_lent before.now) i is_resting }
+    ensures { result ≡ move_of image.now (state_lent before.now) i }
 {
     let own = status_at(before.seen.status, i);
     let u = parent_status(image, before.seen.status, i);

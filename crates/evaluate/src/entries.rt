@@ -1,6 +1,6 @@
 // The evaluation of an expression entry without recursion: the operators that wait for an operand stand in arrays of twelve places.
 ghost use Rattle.std.specs.Prelude.{◌≡◌, ◌<◌};
-ghost use Rattle.plexil.specs.Lent.{seen_in};
+ghost use Rattle.plexil.specs.Lent.{seen_lent};
 ghost use Rattle.plexil.specs.Expressions.{value_of};
 ghost use Rattle.evaluate.specs.Leaves.{leaf_answer};
 
@@ -11,7 +11,7 @@ use plexil::{Seen, Worked};
 // The answer of an entry without operands, whose record stands at `at`; any other number is no leaf.
 pub fn leaf(image: &[u8], at: u32, op: u8, seen: &Seen) -> Worked
     requires { at < 4000000 }
-    ensures { result ≡ leaf_answer image.now at op (seen_in seen.now) }
+    ensures { result ≡ leaf_answer image.now at op (seen_lent seen.now) }
 {
     let a = image::le16(image, at + 2);
     let b = image::le16(image, at + 4);
@@ -28,7 +28,7 @@ pub fn leaf(image: &[u8], at: u32, op: u8, seen: &Seen) -> Worked
 
 // "an expression tree is at most 12 deep": as many operators can be pending.
 pub fn value_of(image: &[u8], seen: &Seen, e: u16) -> Worked
-    ensures { result ≡ value_of image.now (seen_in seen.now) e }
+    ensures { result ≡ value_of image.now (seen_lent seen.now) e }
 {
     let base = image::exprs_at(image);
     let mut ops = [0u8; 12];

@@ -1,6 +1,6 @@
 // A state lent array by array, so that what reads it takes no copy on its stack.
 ghost use Rattle.std.specs.Prelude.{◌≡◌};
-ghost use Rattle.plexil.specs.Lent.{state_in};
+ghost use Rattle.plexil.specs.Lent.{state_lent};
 ghost use Rattle.plexil.specs.Promises.{Sized};
 
 use super::State;
@@ -26,7 +26,7 @@ pub struct Before<'a> {
 
 impl State {
     pub fn lent(&self) -> Before<'_>
-        ensures arrays { state_in result ≡ self.now }
+        ensures arrays { state_lent result ≡ self.now }
         ensures sized { Sized self.now }
     {
         Before {

@@ -4,7 +4,7 @@
 ghost use Rattle.std.specs.Prelude.{◌≡◌, not, false, ℕ, ◌<◌, get_or, set, length};
 ghost use Rattle.plexil.specs.Lists.{all_below, renew};
 ghost use Rattle.plexil.specs.Image.{node_count};
-ghost use Rattle.plexil.specs.Lent.{state_in};
+ghost use Rattle.plexil.specs.Lent.{state_lent};
 ghost use Rattle.plexil.specs.Atomic.{children, is_finished, is_resting, move_of};
 ghost use Rattle.plexil.specs.Micro.{sent as sentOf, stays};
 ghost use Rattle.plexil.specs.Order.{put_place, meet, visit, walk_to};
@@ -57,10 +57,10 @@ fn visit_node(
     carry: &mut Carry,
     sent: &mut [u8; 256],
 ) -> bool
-    requires { IsAdmitted image.now × IsKept image.now (state_in before.now) × (i < node_count image.now) × (finished ≡ children image.now (state_in before.now) i is_finished) × (resting ≡ children image.now (state_in before.now) i is_resting) }
-    ensures { (result ≡ not (stays (move_of image.now (state_in before.now) i)))
-        × (carry_in carry.new ≡ visit image.now (state_in before.now) (carry_in carry.old) i)
-        × (sent.new ≡ set sent.old i (sentOf image.now (state_in before.now) i)) }
+    requires { IsAdmitted image.now × IsKept image.now (state_lent before.now) × (i < node_count image.now) × (finished ≡ children image.now (state_lent before.now) i is_finished) × (resting ≡ children image.now (state_lent before.now) i is_resting) }
+    ensures { (result ≡ not (stays (move_of image.now (state_lent before.now) i)))
+        × (carry_in carry.new ≡ visit image.now (state_lent before.now) (carry_in carry.old) i)
+        × (sent.new ≡ set sent.old i (sentOf image.now (state_lent before.now) i)) }
 {
     let m = move_of(image, before, i, finished, resting);
     let r = place_by(image, before, i, m);
@@ -87,12 +87,12 @@ pub fn walk(
     carry: &mut Carry,
     sent: &mut [u8; 256],
 ) -> bool
-    requires { IsAdmitted image.now × IsKept image.now (state_in before.now) × (n ≡ node_count image.now) × (length sent.old ≡ 256)
-        × ((i : ℕ) → i < 256 → get_or finished.now i false ≡ children image.now (state_in before.now) i is_finished)
-        × ((i : ℕ) → i < 256 → get_or resting.now i false ≡ children image.now (state_in before.now) i is_resting) }
-    ensures { (result ≡ not (all_below (node_count image.now) (λ (i : ℕ). stays (move_of image.now (state_in before.now) i))))
-        × (carry_in carry.new ≡ walk_to image.now (state_in before.now) (carry_in carry.old) (node_count image.now))
-        × (sent.new ≡ renew (node_count image.now) (sentOf image.now (state_in before.now)) sent.old) }
+    requires { IsAdmitted image.now × IsKept image.now (state_lent before.now) × (n ≡ node_count image.now) × (length sent.old ≡ 256)
+        × ((i : ℕ) → i < 256 → get_or finished.now i false ≡ children image.now (state_lent before.now) i is_finished)
+        × ((i : ℕ) → i < 256 → get_or resting.now i false ≡ children image.now (state_lent before.now) i is_resting) }
+    ensures { (result ≡ not (all_below (node_count image.now) (λ (i : ℕ). stays (move_of image.now (state_lent before.now) i))))
+        × (carry_in carry.new ≡ walk_to image.now (state_lent before.now) (carry_in carry.old) (node_count image.now))
+        × (sent.new ≡ renew (node_count image.now) (sentOf image.now (state_lent before.now)) sent.old) }
 {
     let mut moved = false;
     for i in 0..n {

@@ -1,6 +1,6 @@
 -- By the node's type, and a command by its mark.
 use native.Mathlib.Omega.{arith}
-use Rattle.plexil.specs.Lent.{state_in}
+use Rattle.plexil.specs.Lent.{state_lent}
 use mathlib.Core.Path.{refl, sym, ap, ◌∙◌}
 use mathlib.Core.Bool.{not}
 use lib.Dec.{eqb}
@@ -19,7 +19,7 @@ returns-in-0 c = rw (eq_yes c.node_type.ensures refl c.in-0.is) c.requires
 
 pub returns-in-1 : goal.returns-in-1
 unfolding settled is_list is_command when◌then◌else◌
-returns-in-1 c = rw (eq_no {y = 0} c.node_type.ensures refl (λ e. omega arith)) (ap (λ (m : ℕ). not (eqb m 0)) (mark-is (state_in c.args.before.now) _ refl c.get_or.ensures) ∙ sym (every-cons _ _ (eq_yes c.node_type.ensures refl c.in-1.is) ∙ every_one _))
+returns-in-1 c = rw (eq_no {y = 0} c.node_type.ensures refl (λ e. omega arith)) (ap (λ (m : ℕ). not (eqb m 0)) (mark-is (state_lent c.args.before.now) _ refl c.get_or.ensures) ∙ sym (every-cons _ _ (eq_yes c.node_type.ensures refl c.in-1.is) ∙ every_one _))
 
 pub returns-in_default : goal.returns-in_default
 unfolding settled is_list is_command when◌then◌else◌
