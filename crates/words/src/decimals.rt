@@ -1,4 +1,4 @@
-// Decimals: "Digits, '.' and digits, at most 15 in all".
+// Decimals: digits, '.' and digits, at most 15 in all.
 ghost use Rattle.std.specs.Prelude.{◌≡◌, ◌+◌, drop};
 ghost use Rattle.grammar.specs.Leads.{is_real, fraction};
 ghost use Rattle.grammar.specs.Scan.{some_digits};

@@ -90,7 +90,7 @@ fn number_prefix(t: &[u8], bound: u64) -> usize
     t.len()
 }
 
-// What can become a decimal of 15 digits: after '.' there may be those that are left of them, and one must be.
+// What can become a decimal: at most 14 digits stand before '.', since one must come after it, and at most 15 in all.
 fn real_prefix(t: &[u8]) -> usize
     ensures { result ≡ viable_by real t.now }
 {
