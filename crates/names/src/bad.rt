@@ -12,22 +12,6 @@ use super::judge::{Held, held_from};
 use super::table::Tables;
 use super::walk::{here, start, step};
 
-// The number of what a saying of the role declares.
-fn index_of(role: u8, commands: usize, lookups: usize, variables: usize, nodes: usize) -> usize
-    ensures { result ≡ index_no role commands lookups variables nodes }
-{
-    if role == 0 {
-        return commands;
-    }
-    if role == 1 {
-        return lookups;
-    }
-    if role == 2 {
-        return variables;
-    }
-    here(nodes)
-}
-
 // One more of the sort, where the role is to declare one.
 pub fn counted(role: u8, sort: u8, n: usize) -> usize
     requires { n < 18446744073709551615 }
@@ -39,27 +23,66 @@ pub fn counted(role: u8, sort: u8, n: usize) -> usize
     n
 }
 
+// How many of each sort have been declared so far, but for the nodes, which the walk counts.
+#[derive(Clone, Copy)]
+pub struct Counts {
+    pub commands: usize,
+    pub lookups: usize,
+    pub variables: usize,
+}
+
+impl Counts {
+    // The number of what a saying of the role declares.
+    fn index_of(self, role: u8, nodes: usize) -> usize
+        ensures { result ≡ index_no role self.commands self.lookups self.variables nodes }
+    {
+        if role == 0 {
+            return self.commands;
+        }
+        if role == 1 {
+            return self.lookups;
+        }
+        if role == 2 {
+            return self.variables;
+        }
+        here(nodes)
+    }
+
+    // With what a saying of the role declares.
+    fn after(self, role: u8) -> Counts
+        requires commands { self.commands < 18446744073709551615 }
+        requires lookups { self.lookups < 18446744073709551615 }
+        requires variables { self.variables < 18446744073709551615 }
+        ensures { (result.commands ≡ count_no role 0 self.commands) × (result.lookups ≡ count_no role 1 self.lookups) × (result.variables ≡ count_no role 2 self.variables) }
+    {
+        Counts {
+            commands: counted(role, 0, self.commands),
+            lookups: counted(role, 1, self.lookups),
+            variables: counted(role, 2, self.variables),
+        }
+    }
+}
+
 pub fn bad_name<'a>(tables: Tables<'a>) -> Option<usize>
     ensures { (l : List (Said Saying)) → Accepted tables.entry.text.now l → Prepared tables.entry l → result ≡ found_of (bad_name (draft_of l)) }
 {
     let mut lists = [0usize; 16];
     let mut w = start(tables.owner);
     let mut p = held_from(Held::Nothing, 0, 0);
-    let mut commands: usize = 0;
-    let mut lookups: usize = 0;
-    let mut variables: usize = 0;
+    let mut counts = Counts {
+        commands: 0,
+        lookups: 0,
+        variables: 0,
+    };
     while let Some(next) = step(tables.text, tables.owner, &mut lists, w) {
         w = next;
-        let role = w.role;
-        let i = index_of(role, commands, lookups, variables, w.nodes);
+        let i = counts.index_of(w.role, w.nodes);
         let bad = tables.judge(w, i, p);
         if bad.is_some() {
             return bad;
         }
         p = tables.path_after(w, p);
-        commands = counted(role, 0, commands);
-        lookups = counted(role, 1, lookups);
-        variables = counted(role, 2, variables);
+        counts = counts.after(w.role);
     }
     None
 }

@@ -25,7 +25,7 @@ fn one_more(t: Told, sort: u8) -> Told
     }
 }
 
-// A row: where the name stands, and its owner.
+// A row: where the name stands, and its owner. The arrays are lent one by one (no heap, fixed memory): the recogniser has filled the owners' before.
 fn put(
     from: &mut [usize; 704],
     to: &mut [usize; 704],

@@ -150,7 +150,7 @@ impl<'a> Tables<'a> {
     }
 
     // What a saying mentions is in order; i is the number of what it declares.
-    pub fn judge(self, w: Walk, i: usize, p: Path) -> Option<usize>
+    pub(crate) fn judge(self, w: Walk, i: usize, p: Path) -> Option<usize>
         requires { WalkIn self.text.now w × PathIn self.text.now p }
         ensures { (l : List (Said Saying)) → Accepted self.entry.text.now l → Prepared self.entry l → Judged self.entry.text.now l w i p result }
     {
@@ -183,7 +183,7 @@ impl<'a> Tables<'a> {
     }
 
     // The held name or path after a saying.
-    pub fn path_after(self, w: Walk, p: Path) -> Path
+    pub(crate) fn path_after(self, w: Walk, p: Path) -> Path
         requires { WalkIn self.text.now w × PathIn self.text.now p }
         ensures { ((l : List (Said Saying)) → Accepted self.entry.text.now l → Prepared self.entry l → PathGoes self.entry.text.now l w p result) × PathIn self.entry.text.now result }
     {

@@ -32,7 +32,7 @@ impl<'a> Tables<'a> {
         self.find(3, m + 1, x)
     }
 
-    // The parent of a node.
+    // The parent of a node; 65535 of the root, as the definition parent_in (notation, Hearing.antt) has it.
     fn parent_of(self, n: usize) -> usize
         ensures { ((l : List (Said Saying)) → Accepted self.entry.text.now l → Prepared self.entry l → ParentOf (draft_of l) n result) × (result < 18446744073709551615) }
     {

@@ -11,6 +11,7 @@ const ROLES: [u8; 94] = [
 ];
 
 // The role of a saying, by their numbers.
+// They stay numbers, and so do the sorts: the definitions role_number (Roles.antt) and list_of (Tale.antt) have them, and the sayings' are say_of's (recognise, Codes.antt).
 pub fn role_of(says: u8) -> u8
     ensures { result ≡ role_number (role_of (say_of says)) }
 {

@@ -12,7 +12,7 @@ use super::table::{Tables, base_of, count_of, room_of};
 
 impl<'a> Tables<'a> {
     // The first declaration of the sort, the owner m and the name x.
-    pub fn find(self, sort: u8, m: usize, x: &[u8]) -> Option<usize>
+    pub(crate) fn find(self, sort: u8, m: usize, x: &[u8]) -> Option<usize>
         requires { sort < 4 }
         ensures { ((l : List (Said Saying)) → Accepted self.entry.text.now l → Prepared self.entry l → result ≡ found_of (seek sort m x.now (tale_said l))) × (unwrap_or result 0 < 18446744073709551615) }
     {
@@ -28,7 +28,7 @@ impl<'a> Tables<'a> {
     }
 
     // The node of a number.
-    pub fn node(self, n: usize) -> NodeFound
+    pub(crate) fn node(self, n: usize) -> NodeFound
         ensures { ((l : List (Said Saying)) → Accepted self.entry.text.now l → Prepared self.entry l → NodeIs self.entry.text.now (node_in (tale_said l) n) result) × Lies self.entry.text.now result }
     {
         if self.told.whole {

@@ -75,7 +75,7 @@ pub fn count_of(told: Told, sort: u8) -> usize
 
 impl<'a> Tables<'a> {
     // Among `count` rows from place `base` on the first of the owner m and the name x.
-    pub fn first_row(self, base: usize, count: usize, m: usize, x: &[u8]) -> Option<usize>
+    pub(crate) fn first_row(self, base: usize, count: usize, m: usize, x: &[u8]) -> Option<usize>
         requires { base + count ≤ 704 }
         ensures { (Fair self.entry.text.now self.entry.from.now self.entry.to.now base count → result ≡ found_of (find_from 0 (is_called m x.now) (rows self.entry.text.now self.entry.from.now self.entry.to.now self.entry.owner.now base count))) × (unwrap_or result 0 < 18446744073709551615) }
     {
@@ -90,7 +90,7 @@ impl<'a> Tables<'a> {
     }
 
     // The row at place j, where its name lies in the text.
-    pub fn row(self, j: usize) -> NodeFound
+    pub(crate) fn row(self, j: usize) -> NodeFound
         requires { j < 704 }
         ensures { (Fair self.entry.text.now self.entry.from.now self.entry.to.now j 1 → NodeIs self.entry.text.now (row_at self.entry.text.now self.entry.from.now self.entry.to.now self.entry.owner.now j) result) × Lies self.entry.text.now result }
     {

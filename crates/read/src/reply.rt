@@ -3,6 +3,7 @@ ghost use Rattle.std.specs.Prelude.{◌≡◌};
 ghost use Rattle.read.specs.Reply.{refused_reply, made_reply};
 
 // number: the refusal, 0 where the text is accepted; place: the place in the text or the record that it names; made: the image's length.
+// The refusal stays a number: read::read and samblokur_read, with the definition read_reply (notation, Reading.antt), promise it so.
 #[derive(Clone, Copy)]
 pub struct ReadReply {
     pub number: u32,

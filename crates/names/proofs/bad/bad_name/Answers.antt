@@ -37,14 +37,12 @@ returns-then-is_some c = λ l a r. let n = newly _ _ _ _ l a r.tape c.in-Some.en
 pub path_after-p-requires : goal.path_after-p-requires
 path_after-p-requires c = (record { ordered = c.in-Some.ensures.ordered; within = c.in-Some.ensures.within; small = omega (arith, c.in-Some.ensures.bounded.nodes, c.in-Some.ensures.bounded.place) }, c.loop-next.invariant.4)
 
-pub counted-commands-requires : goal.counted-commands-requires
-counted-commands-requires c = omega (arith, c.in-Some.ensures.onward, c.in-Some.ensures.bounded.place, c.loop-next.invariant.1)
-
-pub counted-lookups-requires : goal.counted-lookups-requires
-counted-lookups-requires c = omega (arith, c.in-Some.ensures.onward, c.in-Some.ensures.bounded.place, c.loop-next.invariant.2)
-
-pub counted-variables-requires : goal.counted-variables-requires
-counted-variables-requires c = omega (arith, c.in-Some.ensures.onward, c.in-Some.ensures.bounded.place, c.loop-next.invariant.3)
+pub after-counts-requires : goal.after-counts-requires
+after-counts-requires c = record {
+  commands = omega (arith, c.in-Some.ensures.onward, c.in-Some.ensures.bounded.place, c.loop-next.invariant.1);
+  lookups = omega (arith, c.in-Some.ensures.onward, c.in-Some.ensures.bounded.place, c.loop-next.invariant.2);
+  variables = omega (arith, c.in-Some.ensures.onward, c.in-Some.ensures.bounded.place, c.loop-next.invariant.3);
+}
 
 pub loop-next-smaller : goal.loop-next-smaller
 loop-next-smaller c = omega (arith, c.in-Some.ensures.onward, c.loop-next.invariant.0.place)
@@ -53,12 +51,12 @@ pub loop-next-preserved : goal.loop-next-preserved
 unfolding Judging.Judged Judging.PathGoes
 loop-next-preserved c = (
   c.in-Some.ensures.bounded,
-  rw c.counted-commands.ensures (count-le _ _ _ _ c.loop-next.invariant.1 (c.in-Some.ensures.onward)),
-  rw c.counted-lookups.ensures (count-le _ _ _ _ c.loop-next.invariant.2 (c.in-Some.ensures.onward)),
-  rw c.counted-variables.ensures (count-le _ _ _ _ c.loop-next.invariant.3 (c.in-Some.ensures.onward)),
+  rw c.after-counts.ensures.0 (count-le _ _ _ _ c.loop-next.invariant.1 (c.in-Some.ensures.onward)),
+  rw c.after-counts.ensures.1 (count-le _ _ _ _ c.loop-next.invariant.2 (c.in-Some.ensures.onward)),
+  rw c.after-counts.ensures.2 (count-le _ _ _ _ c.loop-next.invariant.3 (c.in-Some.ensures.onward)),
   c.path_after-p.ensures.1,
   λ l a r.
       let n = newly _ _ _ _ l a r.tape c.in-Some.ensures (c.loop-next.invariant.5 l a r) in
-      rw (c.counted-commands.ensures, c.counted-lookups.ensures, c.counted-variables.ensures)
+      rw (c.after-counts.ensures.0, c.after-counts.ensures.1, c.after-counts.ensures.2)
       (onwards n (upright-on _ l a _ _ _ _ n c.judge-bad.result _ (c.judge-bad.ensures l a r n.tale n.said (newly-hearing _ l a _ _ _ _ n) (λ h. c.index_of-i.ensures ∙ newly-index _ l a _ _ _ _ n h) n.known.path) (sym c.is_some.ensures ∙ c.if-is_some.false) (c.path_after-p.ensures.0 l a r n.tale n.said (newly-hearing _ l a _ _ _ _ n) (newly-path _ l a _ _ _ _ n) (newly-here _ l a _ _ _ _ n) n.known.path))),
 )

@@ -1,8 +1,8 @@
--- `names::bad::index_of` meets its contract.
+-- `names::bad::Counts::index_of` meets its contract.
 use borrow.Author.Tests.{eq-eqb, ne_eqb}
 use mathlib.Core.Path.{◌∙◌}
 use Rattle.names.specs.Judging as Judging
-use Rattle.names.proofs.bad.index_of.Goals as goal
+use Rattle.names.proofs.bad.Counts.index_of.Goals as goal
 
 pub returns-then-role-eq0 : goal.returns-then-role-eq0
 unfolding Judging.index_no
