@@ -26,8 +26,7 @@ loop-i-preserved c =
     let i = c.loop-i.i in
     let lo : i < length c.args.carry.now.outcome = omega (arith, few-nodes _ c.requires.0, c.told-outcome, ap length c.requires.1, c.node_count-i-end.ensures, c.loop-i-test.true) in
     let lf : i < length c.args.carry.now.failure = omega (arith, few-nodes _ c.requires.0, c.told-failure, ap length c.requires.2, c.node_count-i-end.ensures, c.loop-i-test.true) in
-    let l : lost c.args.image.now (carry_in c.args.carry.now) i ≡ c.lost.result = sym c.lost.ensures in
-    (
+    let l : lost c.args.image.now (carry_in c.args.carry.now) i ≡ c.lost.result = sym c.lost.ensures in (
       c.loop-i.invariant.0,
       elim c.if-lost.branch [
         | then-lost w ↦ w.outcome-is ∙ stored _ _ _ _ c.loop-i.invariant.1 lo (sym (if-true _ _ _ (l ∙ w.if-lost.true)))
