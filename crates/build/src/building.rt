@@ -7,7 +7,7 @@ use super::known::Source;
 use super::nodes::{Course, node};
 use super::write::{NOTHING, put_header};
 use names::{Tables, Told, fill_kinds};
-use recognise::{Cursor, Recognised};
+use recognise::Recognised;
 
 // The tables' counts are the text's, for texts whose declarations are more than the tables', too.
 fn counted(told: Told, seen: Recognised) -> Told

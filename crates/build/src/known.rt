@@ -1,5 +1,5 @@
 // What the names of a text mean, from the tables of its declarations.
-ghost use Rattle.build.specs.Known.{tables_of, StandsAt, MeansVariable, MeansLookup, MeansCommand, MeansFirst, MeansPart};
+ghost use Rattle.build.specs.Known.{tables_of, StandsAt, MeansVariable, MeansLookup, MeansCommand};
 
 use names::{Tables, command_number};
 use recognise::Cursor;

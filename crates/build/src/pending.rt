@@ -1,6 +1,5 @@
 // Operators whose right operand has not ended, in a lent array: at each place three numbers, the operator's saying (79 NOT), its left operand's entry, and how many parentheses are open after it; place 0 has the parentheses before the first operator.
 // One array, since it is lent (no heap, fixed memory); the sayings' numbers, here and in the other files, are those of the definition say_of (recognise, Codes.antt).
-ghost use Rattle.std.specs.Prelude.{◌≡◌, length};
 ghost use Rattle.build.specs.Pendings.{Weighs, Pushed, Raised, Lowered, Keeps, IsPrefix, IsHeld, EndsOne, EndsAt, Prefixes, Unwinds, Follows};
 
 use super::entries::{NOT, emit, end_operator, last, strength};

@@ -4,7 +4,7 @@ ghost use Rattle.grammar.specs.Table.{Said};
 ghost use Rattle.notation.specs.Sayings.{Saying};
 ghost use Rattle.notation.specs.Hearing.{draft_of};
 ghost use Rattle.notation.specs.Names.{bad_name};
-ghost use Rattle.names.specs.Answers.{Accepted, found_of, tale_said};
+ghost use Rattle.names.specs.Answers.{Accepted, found_of};
 ghost use Rattle.names.specs.Tables.{Prepared};
 ghost use Rattle.names.specs.Judging.{index_no, count_no};
 

@@ -4,7 +4,7 @@ ghost use Rattle.grammar.specs.Table.{Said};
 ghost use Rattle.notation.specs.Sayings.{Saying};
 ghost use Rattle.notation.specs.Hearing.{draft_of};
 ghost use Rattle.notation.specs.Names.{command_of, lookup_of, variable_of, child_of, node_at, node_up};
-ghost use Rattle.names.specs.Answers.{Accepted, found_of, tale_said, ParentOf};
+ghost use Rattle.names.specs.Answers.{Accepted, found_of, ParentOf};
 ghost use Rattle.names.specs.Tables.{Prepared};
 
 use super::table::Tables;

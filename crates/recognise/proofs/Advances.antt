@@ -23,13 +23,13 @@ use Rattle.recognise.specs.declared.taking.Taken.{Taken}
 use Rattle.recognise.specs.declared.taking.Halt.{Halt}
 use Rattle.recognise.specs.declared.Cursor.{Cursor}
 use Rattle.recognise.specs.Codes as Codes
-use Rattle.recognise.specs.Codes.{say_of, over}
+use Rattle.recognise.specs.Codes.{say_of}
 use Rattle.recognise.specs.Positions as Positions
 use Rattle.recognise.specs.Tables.{Move, row_of}
 use Rattle.recognise.specs.Steps.{Stepped, Effect, refuses, goes_on, begins_node, begins_in_list, closes_list, opens_list, assigns, opens_paren, ends, closes_paren, marks, effect_of, start_ahead, most, moved, step_of}
 use Rattle.recognise.specs.Taking.{taken_of}
 use Rattle.recognise.specs.Hears as Hears
-use Rattle.recognise.specs.Hears.{Hearing, Scanned, Heard, piece}
+use Rattle.recognise.specs.Hears.{Hearing, Scanned}
 use Rattle.recognise.proofs.Claims.{listing}
 use Rattle.recognise.proofs.Claimed.{listed, row-says}
 use Rattle.recognise.proofs.Standing.{unmarked-marks}

@@ -1,7 +1,7 @@
 // Past blanks and comments. A place is where the machine of the definition stands between tokens.
-ghost use Rattle.std.specs.Prelude.{◌≡◌, ◌≤◌, ◌+◌, length, drop};
+ghost use Rattle.std.specs.Prelude.{◌≤◌, ◌+◌, length};
 ghost use Rattle.grammar.specs.Spelling.{slash, remark, aside};
-ghost use Rattle.grammar.specs.Scan.{token_at, next_from};
+ghost use Rattle.grammar.specs.Scan.{token_at};
 ghost use Rattle.scan.specs.Runs.{Skipped, Passed};
 ghost use Rattle.scan.specs.Reply.{passed_to, place_of};
 

@@ -4,16 +4,14 @@ use mathlib.Core.Path.{◌≡◌}
 use mathlib.Core.Bool.{not}
 use mathlib.Core.List.{List, [], ◌∷◌}
 use native.Mathlib.Omega.{arith}
-use lib.Dec.{eqb, ltb}
+use lib.Dec.{eqb}
 use lib.ListN.{get_or}
 use Rattle.plexil.specs.declared.State.{State}
 use Rattle.plexil.specs.declared.Status.TheVariants.{Waiting}
 use Rattle.plexil.specs.Lists.{when◌then◌else◌, every}
-use Rattle.plexil.specs.Values.{cell}
-use Rattle.plexil.specs.Image.{Image, what, owner}
-use Rattle.plexil.specs.Places.{status_of, status_code, same, status_at, var_cell, initial}
-use Rattle.plexil.specs.Records.{target}
-use Rattle.plexil.specs.Order.{Carry, leads, lost, entered_waiting, settled_var}
+use Rattle.plexil.specs.Image.{Image, what}
+use Rattle.plexil.specs.Places.{status_of, status_code, same, status_at}
+use Rattle.plexil.specs.Order.{Carry, lost, entered_waiting}
 use Rattle.places.proofs.StatusLaws.{same_code}
 
 -- ---- statuses by their codes

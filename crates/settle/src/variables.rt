@@ -1,7 +1,6 @@
 // The variables: a write that is settled enters, else the initial value where the owner entered Waiting, else the old cell stays.
 ghost use Rattle.std.specs.Prelude.{◌≡◌, ◌∷◌, [], eqb, ltb, get_or};
 ghost use Rattle.plexil.specs.Lists.{every};
-ghost use Rattle.plexil.specs.Places.{var_cell};
 ghost use Rattle.plexil.specs.Order.{entered_waiting, settled_var, settle};
 ghost use Rattle.plexil.specs.Carried.{carry_in};
 ghost use Rattle.plexil.specs.Promises.{IsAdmitted};

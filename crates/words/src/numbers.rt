@@ -1,5 +1,5 @@
 // The number that a token's digits write, and a number with its sign as 64 bits.
-ghost use Rattle.std.specs.Prelude.{◌≡◌, ◌+◌, ◌-◌, ◌*◌, ◌<◌, ◌≤◌, true, drop};
+ghost use Rattle.std.specs.Prelude.{◌≡◌, ◌+◌, ◌-◌, ◌*◌, ◌<◌, ◌≤◌, true};
 ghost use Rattle.grammar.specs.Leads.{digits, is_number, value_from};
 ghost use Rattle.notation.specs.Numbers as Numbers;
 ghost use Rattle.notation.specs.Numbers.{all_digits, signed_bits};

@@ -5,7 +5,6 @@ use native.Mathlib.Omega.{arith}
 use Rattle.notation.specs.Hearing.{draft_of}
 use Rattle.names.specs.Answers.{found_of}
 use Rattle.names.specs.Judging as Judging
-use Rattle.names.specs.Judging.{PathIn}
 use Rattle.names.proofs.Halfway.{all_told, newly, halfway-start, onwards}
 use Rattle.names.proofs.Upright.{nothing-bad, newly-hearing, newly-index, newly-path, newly-here, found-bad, upright-on, all-fine, count-le}
 use Rattle.names.proofs.bad.bad_name.Goals as goal

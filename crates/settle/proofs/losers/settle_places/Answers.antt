@@ -3,7 +3,6 @@ use Prim.Native.Nat.{◌<◌}
 use mathlib.Core.Path.{◌≡◌, sym, ap, ◌∙◌}
 use native.Mathlib.Omega.{arith}
 use lib.ListN.{length}
-use Rattle.plexil.specs.Image.{node_count}
 use Rattle.plexil.specs.Order.{lost, settle}
 use Rattle.plexil.specs.Carried.{carry_in}
 use Rattle.plexil.proofs.ListLaws.{if-true, if-false}

@@ -1,9 +1,8 @@
 -- Below v each variable is settled, from v on it is as it was.
-use mathlib.Core.Path.{◌≡◌, sym, ap, ◌∙◌}
+use mathlib.Core.Path.{sym, ap, ◌∙◌}
 use native.Mathlib.Omega.{arith}
 use lib.ListN.{length}
 use Rattle.plexil.specs.declared.Cell.{Cell}
-use Rattle.plexil.specs.Image.{var_count}
 use Rattle.plexil.specs.Order.{settle}
 use Rattle.plexil.proofs.RenewLaws.{renew-none, stored, whole}
 use Rattle.plexil.proofs.Admitted.{few-vars}
