@@ -1,133 +1,95 @@
 // K1 to K10, each fresh with budget 100.
 use plexil::Ran;
-use telling::{after, end, run_end};
-
-// The first run over this list, and how it ended.
-fn first_run(name: &[u8], image: &[u8], list: &mut [u32]) -> Ran {
-    let r = telling::play(image, 100, list);
-    telling::text(name);
-    run_end(r);
-    r
-}
+use std::io;
+use telling::{Ended, after, first, root, second, x, y};
 
 // A plan without commands, to its end.
-fn begin(name: &[u8], image: &[u8]) -> Ran {
-    let mut list = [0u32; 4];
-    first_run(name, image, &mut list)
+fn begin(image: &[u8]) -> Ran {
+    let mut list = [0; 4];
+    telling::play(image, 100, &mut list)
 }
 
-fn k1() {
-    let image = drawings::swap();
-    let r = begin(b"K1", &image);
-    telling::x(r.state);
-    telling::y(r.state);
-    end();
+fn k1(rt: &impl Print) -> io::Result<()> {
+    let r = begin(&drawings::swap());
+    println!(rt; "K1{} x={} y={}", Ended(&r), x(&r.state), y(&r.state))
 }
 
 // The priorities a and b.
-fn contest(name: &[u8], a: u32, b: u32) {
-    let image = drawings::contest(a, b);
-    let r = begin(name, &image);
-    telling::x(r.state);
-    telling::first(r.state);
-    telling::second(r.state);
-    end();
+fn contest(rt: &impl Print, name: &str, a: u32, b: u32) -> io::Result<()> {
+    let r = begin(&drawings::contest(a, b));
+    let s = &r.state;
+    println!(rt;
+        "{name}{} x={}, first{}, second{}",
+        Ended(&r),
+        x(s),
+        first(s),
+        second(s)
+    )
 }
 
-fn k4() {
-    let image = drawings::childless();
-    let r = begin(b"K4", &image);
-    telling::root(r.state);
-    end();
-}
-
-// A plan that issues one word.
-fn issue(name: &[u8], image: &[u8]) -> Ran {
-    let mut list = [9u32; 4];
-    let r = first_run(name, image, &mut list);
-    telling::word(list[0]);
-    r
-}
-
-// The return of a node, and the root then.
-fn returned(image: &[u8], r: Ran, serial: u32, node: u32) {
-    let event = drawings::single(serial, 2, node);
-    let mut list = [9u32; 4];
-    let s = after(image, r, &event, 100, &mut list);
-    run_end(s);
-    telling::root(s.state);
-}
-
-fn k5() {
-    let image = drawings::lone_command();
-    let r = issue(b"K5", &image);
-    returned(&image, r, 0, 0);
-    end();
+// A plan without commands, and its root then.
+fn root_at_end(rt: &impl Print, name: &str, image: &[u8]) -> io::Result<()> {
+    let r = begin(image);
+    println!(rt; "{name}{}{}", Ended(&r), root(&r.state))
 }
 
 // A plan that assigns x, and x then.
-fn x_at_end(name: &[u8], image: &[u8]) {
-    let r = begin(name, image);
-    telling::x(r.state);
-    end();
+fn x_at_end(rt: &impl Print, name: &str, image: &[u8]) -> io::Result<()> {
+    let r = begin(image);
+    println!(rt; "{name}{} x={}", Ended(&r), x(&r.state))
 }
 
-fn k6() {
-    let image = drawings::counting(0);
-    x_at_end(b"K6", &image);
+// A plan that issues one word.
+fn issue(rt: &impl Print, name: &str, image: &[u8]) -> io::Result<Ran> {
+    let mut list = [9; 4];
+    let r = telling::play(image, 100, &mut list);
+    print!(rt; "{name}{} word {}", Ended(&r), list[0])?;
+    Ok(r)
 }
 
-fn k7() {
-    let image = drawings::counting(1);
-    begin(b"K7", &image);
-    end();
+// The return of a node, and the root then.
+fn returned(rt: &impl Print, image: &[u8], r: &Ran, serial: u32, node: u32) -> io::Result<()> {
+    let mut list = [9; 4];
+    let s = after(image, r, &drawings::single(serial, 2, node), 100, &mut list);
+    println!(rt; "{}{}", Ended(&s), root(&s.state))
 }
 
-fn k8() {
-    let image = drawings::pre_false();
-    let r = begin(b"K8", &image);
-    telling::root(r.state);
-    end();
+fn k5(rt: &impl Print) -> io::Result<()> {
+    let image = drawings::lone_command();
+    let r = issue(rt, "K5", &image)?;
+    returned(rt, &image, &r, 0, 0)
+}
+
+fn k7(rt: &impl Print) -> io::Result<()> {
+    let r = begin(&drawings::counting(1));
+    println!(rt; "K7{}", Ended(&r))
 }
 
 // "Lookup False", and the word then.
-fn is_false(image: &[u8], r: Ran) -> Ran {
-    let event = drawings::single(0, 0, 0);
-    let mut list = [9u32; 4];
-    let s = after(image, r, &event, 100, &mut list);
-    run_end(s);
-    telling::word(list[0]);
-    s
+fn is_false(rt: &impl Print, image: &[u8], r: &Ran) -> io::Result<Ran> {
+    let mut list = [9; 4];
+    let s = after(image, r, &drawings::single(0, 0, 0), 100, &mut list);
+    print!(rt; "{} word {}", Ended(&s), list[0])?;
+    Ok(s)
 }
 
-fn k9() {
+fn k9(rt: &impl Print) -> io::Result<()> {
     let image = drawings::guarded();
-    let r = issue(b"K9", &image);
-    let s = is_false(&image, r);
-    returned(&image, s, 1, 1);
-    end();
+    let r = issue(rt, "K9", &image)?;
+    let s = is_false(rt, &image, &r)?;
+    returned(rt, &image, &s, 1, 1)
 }
 
-fn k10() {
-    let over = drawings::over();
-    x_at_end(b"K10 9223372036854775807 + 1", &over);
-    let and = drawings::false_and_unknown();
-    x_at_end(b"K10 False AND Unknown", &and);
-}
-
-fn first_half() {
-    k1();
-    contest(b"K2", 5, 3);
-    contest(b"K3", 5, 5);
-    k4();
-    k5();
-}
-
-pub(crate) fn all() {
-    first_half();
-    k6();
-    k7();
-    k8();
-    k9();
-    k10();
+pub(crate) fn all(rt: &impl Print) -> io::Result<()> {
+    k1(rt)?;
+    contest(rt, "K2", 5, 3)?;
+    contest(rt, "K3", 5, 5)?;
+    root_at_end(rt, "K4", &drawings::childless())?;
+    k5(rt)?;
+    x_at_end(rt, "K6", &drawings::counting(0))?;
+    k7(rt)?;
+    root_at_end(rt, "K8", &drawings::pre_false())?;
+    k9(rt)?;
+    x_at_end(rt, "K10 9223372036854775807 + 1", &drawings::over())?;
+    x_at_end(rt, "K10 False AND Unknown", &drawings::false_and_unknown())
 }

@@ -4,7 +4,9 @@
 mod ends;
 mod small;
 
-fn main() {
-    small::all();
-    ends::all();
+use std::io;
+
+fn main(rt: HostRuntime) -> io::Result<()> {
+    small::all(&rt)?;
+    ends::all(&rt)
 }

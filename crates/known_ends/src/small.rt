@@ -1,43 +1,35 @@
 // The unmarked small plans: the smallest image, the limits of nodes and depth, a budget of 0.
-use telling::check;
+use std::io;
+use telling::{Ended, check};
 
 // "44 bytes hold the smallest plan; 19 bytes are Short"
-fn bytes() {
-    let smallest = drawings::childless();
-    check(b"44 bytes", &smallest);
-    let short = [0u8; 19];
-    check(b"19 bytes", &short);
+fn bytes(rt: &impl Print) -> io::Result<()> {
+    check(rt, "44 bytes", &drawings::childless())?;
+    check(rt, "19 bytes", &[0; 19])
 }
 
 // "256 nodes pass, 257 are Count"
-fn nodes() {
-    let most = drawings::nodes_256();
-    check(b"256 nodes", &most);
-    let more = drawings::nodes_257();
-    check(b"257 nodes", &more);
+fn nodes(rt: &impl Print) -> io::Result<()> {
+    check(rt, "256 nodes", &drawings::nodes_256())?;
+    check(rt, "257 nodes", &drawings::nodes_257())
 }
 
 // "Depth 12 passes, 13 is Deep"
-fn depth() {
-    let deepest = drawings::depth_12();
-    check(b"depth 12", &deepest);
-    let deeper = drawings::depth_13();
-    check(b"depth 13", &deeper);
+fn depth(rt: &impl Print) -> io::Result<()> {
+    check(rt, "depth 12", &drawings::depth_12())?;
+    check(rt, "depth 13", &drawings::depth_13())
 }
 
 // "Budget 0 on a fresh plan K4: Spent, 0"
-fn budget_0() {
-    let image = drawings::childless();
-    let mut list = [0u32; 4];
-    let r = telling::play(&image, 0, &mut list);
-    telling::text(b"budget 0");
-    telling::run_end(r);
-    telling::end();
+fn budget_0(rt: &impl Print) -> io::Result<()> {
+    let mut list = [0; 4];
+    let r = telling::play(&drawings::childless(), 0, &mut list);
+    println!(rt; "budget 0{}", Ended(&r))
 }
 
-pub(crate) fn all() {
-    bytes();
-    nodes();
-    depth();
-    budget_0();
+pub(crate) fn all(rt: &impl Print) -> io::Result<()> {
+    bytes(rt)?;
+    nodes(rt)?;
+    depth(rt)?;
+    budget_0(rt)
 }

@@ -6,8 +6,10 @@ mod images;
 mod noticed;
 mod refuse;
 
-fn main() {
-    images::all();
-    calls::all();
-    noticed::all();
+use std::io;
+
+fn main(rt: HostRuntime) -> io::Result<()> {
+    images::all(&rt)?;
+    calls::all(&rt)?;
+    noticed::all(&rt)
 }

@@ -1,72 +1,28 @@
-// Whether two states, cards or lists are the same, place by place.
+// Whether two states and cards are the same, place by place: `==` of the whole would be a derive beside the types, in plexil.
 use plexil::{Card, State};
 
-fn same_bits(a: &[u64], b: &[u64]) -> bool {
-    if a.len() != b.len() {
-        return false;
-    }
-    let mut i = 0;
-    while i < a.len() {
-        if i < b.len() {
-            if a[i] != b[i] {
-                return false;
-            }
-        }
-        i += 1;
-    }
-    true
+// A state and its turn card, as a call is given or leaves them.
+#[derive(Clone, Copy)]
+pub struct Left {
+    pub state: State,
+    pub card: Card,
 }
 
-pub fn same_words(a: &[u32], b: &[u32]) -> bool {
-    if a.len() != b.len() {
-        return false;
-    }
-    let mut j = 0;
-    while j < a.len() {
-        if j < b.len() {
-            if a[j] != b[j] {
-                return false;
-            }
-        }
-        j += 1;
-    }
-    true
+fn same_places(s: &State, t: &State) -> bool {
+    s.status == t.status && s.outcome == t.outcome && s.failure == t.failure && s.mark == t.mark
 }
 
-fn same_places(s: State, t: State) -> bool {
-    if check::same(&s.status, &t.status) {
-        if check::same(&s.outcome, &t.outcome) {
-            if check::same(&s.failure, &t.failure) {
-                return check::same(&s.mark, &t.mark);
-            }
-        }
-    }
-    false
-}
-
-fn same_cells(s: State, t: State) -> bool {
-    if check::same(&s.vartags, &t.vartags) {
-        if same_bits(&s.varbits, &t.varbits) {
-            if check::same(&s.looktags, &t.looktags) {
-                return same_bits(&s.lookbits, &t.lookbits);
-            }
-        }
-    }
-    false
+fn same_cells(s: &State, t: &State) -> bool {
+    s.vartags == t.vartags
+        && s.varbits == t.varbits
+        && s.looktags == t.looktags
+        && s.lookbits == t.lookbits
 }
 
 fn same_card(a: Card, b: Card) -> bool {
-    if a.serial == b.serial {
-        return a.phase == b.phase;
-    }
-    false
+    a.serial == b.serial && a.phase == b.phase
 }
 
-pub fn same(s: State, a: Card, t: State, b: Card) -> bool {
-    if same_places(s, t) {
-        if same_cells(s, t) {
-            return same_card(a, b);
-        }
-    }
-    false
+pub fn same(a: &Left, b: &Left) -> bool {
+    same_places(&a.state, &b.state) && same_cells(&a.state, &b.state) && same_card(a.card, b.card)
 }

@@ -1,55 +1,73 @@
 // Each call on a state and a card: its answer, and whether state, card and list are kept.
-use super::answers;
-use super::compared::{same, same_words};
-use super::print::{kept, number, text};
-use plexil::{Card, Ran, State};
+use super::answers::{Ended, Judged};
+use super::compared::{Left, same};
+use super::words::kept;
+use plexil::Ran;
+use std::io;
 
-pub fn fresh(image: &[u8], state: State, card: Card) {
-    let r = turns::fresh(image, state, card);
-    let v = r.verdict;
-    text(b", fresh");
-    answers::verdict(v);
-    kept(same(state, card, r.state, r.card));
+pub fn fresh(rt: &impl Print, image: &[u8], held: &Left) -> io::Result<()> {
+    let r = turns::fresh(image, held.state, held.card);
+    let after = Left {
+        state: r.state,
+        card: r.card,
+    };
+    print!(rt; ", fresh{}{}", Judged(r.verdict), kept(same(held, &after)))
 }
 
 // What a run or a turn answered, and whether it left this state and card, and the list as it was.
-fn told(r: Ran, list: &[u32], state: State, card: Card) {
-    let before = [9u32; 4];
-    answers::run_end(r);
-    text(b" next");
-    number(r.next as u64);
-    kept(same(state, card, r.state, r.card));
-    kept(same_words(&before, list));
+fn told(rt: &impl Print, r: &Ran, list: &[u32; 4], left: &Left) -> io::Result<()> {
+    let after = Left {
+        state: r.state,
+        card: r.card,
+    };
+    print!(rt;
+        "{} next {}{}{}",
+        Ended(r),
+        r.next,
+        kept(same(left, &after)),
+        kept(*list == [9; 4])
+    )
 }
 
 // A run with budget 100 over a list of four places, which should leave this state and card.
-pub fn run_to(image: &[u8], s: State, c: Card, start: usize, state: State, card: Card) {
-    let mut list = [9u32; 4];
-    let r = turns::run(image, s, c, 100, &mut list, start);
-    text(b", run");
-    told(r, &list, state, card);
+pub fn run_to(
+    rt: &impl Print,
+    image: &[u8],
+    held: &Left,
+    start: usize,
+    left: &Left,
+) -> io::Result<()> {
+    let mut list = [9; 4];
+    let r = turns::run(image, held.state, held.card, 100, &mut list, start);
+    print!(rt; ", run")?;
+    told(rt, &r, &list, left)
 }
 
-pub fn run(image: &[u8], state: State, card: Card, start: usize) {
-    run_to(image, state, card, start, state, card);
+pub fn run(rt: &impl Print, image: &[u8], held: &Left, start: usize) -> io::Result<()> {
+    run_to(rt, image, held, start, held)
 }
 
 // A turn with this event, else as above.
 pub fn turn_to(
+    rt: &impl Print,
     image: &[u8],
-    s: State,
-    c: Card,
+    held: &Left,
     event: &[u8],
     start: usize,
-    state: State,
-    card: Card,
-) {
-    let mut list = [9u32; 4];
-    let r = turns::turn(image, s, c, event, 100, &mut list, start);
-    text(b", turn");
-    told(r, &list, state, card);
+    left: &Left,
+) -> io::Result<()> {
+    let mut list = [9; 4];
+    let r = turns::turn(image, held.state, held.card, event, 100, &mut list, start);
+    print!(rt; ", turn")?;
+    told(rt, &r, &list, left)
 }
 
-pub fn turn(image: &[u8], state: State, card: Card, event: &[u8], start: usize) {
-    turn_to(image, state, card, event, start, state, card);
+pub fn turn(
+    rt: &impl Print,
+    image: &[u8],
+    held: &Left,
+    event: &[u8],
+    start: usize,
+) -> io::Result<()> {
+    turn_to(rt, image, held, event, start, held)
 }

@@ -5,10 +5,10 @@ mod answers;
 mod compared;
 mod left;
 mod plays;
-mod print;
+mod words;
 
-pub use answers::run_end;
-pub use compared::{same, same_words};
+pub use answers::{Ended, Judged};
+pub use compared::{Left, same};
 pub use left::{fresh, run, run_to, turn, turn_to};
 pub use plays::{after, check, judge, play, start};
-pub use print::{end, first, kept, root, second, text, word, x, y};
+pub use words::{first, kept, root, second, x, y};

@@ -1,18 +1,19 @@
 // What the cases share: a plan started fresh and run, a plan checked, and the next turn.
-use super::{answers, print};
+use super::answers::Judged;
 use plexil::{Card, Ran, Started, State};
+use std::io;
 
 // A state to hand to a fresh start.
 fn blank() -> State {
     State {
-        status: [0u8; 256],
-        outcome: [0u8; 256],
-        failure: [0u8; 256],
-        mark: [0u8; 256],
-        vartags: [0u8; 128],
-        varbits: [0u64; 128],
-        looktags: [0u8; 64],
-        lookbits: [0u64; 64],
+        status: [0; 256],
+        outcome: [0; 256],
+        failure: [0; 256],
+        mark: [0; 256],
+        vartags: [0; 128],
+        varbits: [0; 128],
+        looktags: [0; 64],
+        lookbits: [0; 64],
     }
 }
 
@@ -28,25 +29,20 @@ pub fn start(image: &[u8]) -> Started {
 // A fresh plan, run from the list's first place.
 pub fn play(image: &[u8], budget: u16, list: &mut [u32]) -> Ran {
     let started = start(image);
-    let state = started.state;
-    let card = started.card;
-    turns::run(image, state, card, budget, list, 0)
+    turns::run(image, started.state, started.card, budget, list, 0)
 }
 
 // The verdict on an image.
-pub fn judge(name: &[u8], image: &[u8]) {
-    let c = admit::check(image);
-    let v = c.verdict;
-    print::text(name);
-    answers::verdict(v);
+pub fn judge(rt: &impl Print, name: &str, image: &[u8]) -> io::Result<()> {
+    print!(rt; "{name}{}", Judged(admit::check(image).verdict))
 }
 
-pub fn check(name: &[u8], image: &[u8]) {
-    judge(name, image);
-    print::end();
+pub fn check(rt: &impl Print, name: &str, image: &[u8]) -> io::Result<()> {
+    judge(rt, name, image)?;
+    println!(rt)
 }
 
 // The next turn: an event, with this budget from the list's first place.
-pub fn after(image: &[u8], r: Ran, event: &[u8], budget: u16, list: &mut [u32]) -> Ran {
+pub fn after(image: &[u8], r: &Ran, event: &[u8], budget: u16, list: &mut [u32]) -> Ran {
     turns::turn(image, r.state, r.card, event, budget, list, 0)
 }
