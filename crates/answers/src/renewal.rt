@@ -23,13 +23,7 @@ pub struct Renewed {
 fn differs(old: Cell, new: Cell) -> u8
     ensures { result ≡ 0 → (old.tag ≡ new.tag) × (old.bits ≡ new.bits) }
 {
-    if old.tag == new.tag {
-        if old.bits == new.bits {
-            return 0;
-        }
-        return 1;
-    }
-    1
+    (old != new) as u8
 }
 
 // Entry e, whose section stands at base and whose cell was old; the table is that of t below e, and that of s from e on.

@@ -39,6 +39,9 @@ unfolding default_of
 inv-default p s i = refl
 
 -- ---- `==` of two statuses in code
+pub said : (a b : Status) {x : Bool} → x ≡ sameb status.the_type a b → same a b ≡ x
+said a b e = sym (e ∙ equal_same a b)
+
 pub equals : (a b : Status) {r x : Bool} → r ≡ sameb status.the_type a b → r ≡ x → same a b ≡ x
 equals a b e h = sym (equal_same a b) ∙ (sym e ∙ h)
 

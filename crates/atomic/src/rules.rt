@@ -143,31 +143,15 @@ fn by_status(
     ensures { result ≡ by_status own u image.now (state_lent before.now) i }
 {
     match own {
-        Status::Inactive => {
-            if u == Status::Executing {
-                Move::Go(Status::Waiting, Effect::Kept)
-            } else {
-                Move::Stay
-            }
-        }
-        Status::Waiting => {
-            if u == Status::Executing {
-                from_waiting(image, &before.seen, i)
-            } else {
-                Move::Stay
-            }
-        }
+        Status::Inactive if u == Status::Executing => Move::Go(Status::Waiting, Effect::Kept),
+        Status::Waiting if u == Status::Executing => from_waiting(image, &before.seen, i),
         Status::Executing => from_executing(image, before, i, u, finished),
         Status::Finishing => from_finishing(image, before, i, u, resting),
-        Status::Failing => {
-            if is_settled(image, before, i, resting) {
-                Move::Go(Status::IterationEnded, Effect::Kept)
-            } else {
-                Move::Stay
-            }
+        Status::Failing if is_settled(image, before, i, resting) => {
+            Move::Go(Status::IterationEnded, Effect::Kept)
         }
         Status::IterationEnded => from_ended(image, &before.seen, i, u),
-        Status::Finished => Move::Stay,
+        _ => Move::Stay,
     }
 }
 

@@ -32,7 +32,7 @@ pub enum Pair {
 }
 
 // A kept value: the tag is 0 for Unknown, else one more than the kind; Unknown has bits 0. An Option of a kind and bits would not be what C lends.
-#[derive(Clone, Copy)]
+#[derive(Clone, Copy, PartialEq, Eq)]
 pub struct Cell {
     pub tag: u8,
     pub bits: u64,
@@ -40,7 +40,7 @@ pub struct Cell {
 
 // A state. The cell of variable v is (vartags[v], varbits[v]), that of lookup l (looktags[l], lookbits[l]). Arrays side by side and codes as numbers, since C lends it so.
 #[repr(C)]
-#[derive(Clone, Copy)]
+#[derive(Clone, Copy, PartialEq, Eq)]
 pub struct State {
     pub status: [u8; 256],
     pub outcome: [u8; 256],
@@ -54,7 +54,7 @@ pub struct State {
 
 // The turn card: the next serial, and the phase, 0 Running or 1 Quiet.
 #[repr(C)]
-#[derive(Clone, Copy)]
+#[derive(Clone, Copy, PartialEq, Eq)]
 pub struct Card {
     pub serial: u32,
     pub phase: u32,
