@@ -1,5 +1,5 @@
 // Little-endian numbers at a place of the image; past the end every byte is 0. A place is a u32, so that no index wraps.
-// One reader of N bytes over std's `from_le_bytes` was tried and proved: it is as quick, but what the compiler then puts inline takes 40,680 bytes of stack in a call, above the project's 32,768.
+// One reader of N bytes over std's `from_le_bytes` was tried and proved: with the bytes past the end inline it reads 16 bits a third slower (1.3 for 1.0 ns), and with them apart a call takes 40,680 bytes of stack, above the project's 32,768.
 ghost use Rattle.std.specs.Prelude.{◌≡◌, ◌+◌, ◌*◌, ◌^◌, ◌<◌, length};
 ghost use Rattle.plexil.specs.Bytes.{byte_at, le16, le32, le64};
 
