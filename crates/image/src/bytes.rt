@@ -1,51 +1,99 @@
 // Little-endian numbers at a place of the image; past the end every byte is 0. A place is a u32, so that no index wraps.
-ghost use Rattle.std.specs.Prelude.{◌≡◌, ℕ, ◌+◌, ◌^◌, ◌<◌, slice_index, length};
+// One reader of N bytes over std's `from_le_bytes` was tried and proved: with the bytes past the end inline it reads 16 bits a third slower (1.3 for 1.0 ns), and with them apart a call takes 40,680 bytes of stack, above the project's 32,768.
+ghost use Rattle.std.specs.Prelude.{◌≡◌, ◌+◌, ◌*◌, ◌^◌, ◌<◌, length};
 ghost use Rattle.plexil.specs.Bytes.{byte_at, le16, le32, le64};
 
 pub fn byte_at(b: &[u8], at: u32) -> u8
     ensures { result ≡ byte_at b.now at }
 {
-    b.get(at as usize).copied().unwrap_or(0)
+    byte(b, at as usize)
 }
 
 pub fn le16(b: &[u8], at: u32) -> u16
     ensures { result ≡ le16 b.now at }
 {
-    u16::from_le_bytes(bytes_at(b, at as usize))
+    two(b, at as usize)
 }
 
 pub fn le32(b: &[u8], at: u32) -> u32
     ensures { result ≡ le32 b.now at }
 {
-    u32::from_le_bytes(bytes_at(b, at as usize))
+    four(b, at as usize)
 }
 
 pub fn le64(b: &[u8], at: u32) -> u64
     ensures { result ≡ le64 b.now at }
 {
-    u64::from_le_bytes(bytes_at(b, at as usize))
+    let k = at as usize;
+    if k + 7 < b.len() {
+        return join64(four_within(b, k), four_within(b, k + 4));
+    }
+    join64(four(b, k), four(b, k + 4))
 }
 
-// N bytes from place k on: where the image has them, one test for all.
-fn bytes_at<const N: usize>(b: &[u8], k: usize) -> [u8; N]
-    requires { k + N < 2 ^ 63 }
-    ensures { (i : ℕ) → i < N → slice_index result i ≡ byte_at b.now (k + i) }
+// The low half first.
+fn join16(low: u8, high: u8) -> u16
+    ensures { result ≡ low + 256 * high }
 {
-    match b.get(k..k + N) {
-        Some(all) => *all.as_array().unwrap(),
-        None => cut_short(b, k),
+    low as u16 + 256 * (high as u16)
+}
+
+fn join32(low: u16, high: u16) -> u32
+    ensures { result ≡ low + 65536 * high }
+{
+    low as u32 + 65536 * (high as u32)
+}
+
+fn join64(low: u32, high: u32) -> u64
+    ensures { result ≡ low + 4294967296 * high }
+{
+    low as u64 + 4294967296 * (high as u64)
+}
+
+fn byte(b: &[u8], k: usize) -> u8
+    ensures { result ≡ byte_at b.now k }
+{
+    if k < b.len() { b[k] } else { 0 }
+}
+
+fn two(b: &[u8], k: usize) -> u16
+    requires { k + 1 < 2 ^ 64 }
+    ensures { result ≡ le16 b.now k }
+{
+    if k + 1 < b.len() {
+        two_within(b, k)
+    } else {
+        byte(b, k) as u16
     }
 }
 
-// The same where the image ends before them. It stands apart, so that a reader's common way is one test and one load.
-#[inline(never)]
-fn cut_short<const N: usize>(b: &[u8], k: usize) -> [u8; N]
-    requires { length b.now < k + N }
-    ensures { (i : ℕ) → i < N → slice_index result i ≡ byte_at b.now (k + i) }
+fn four(b: &[u8], k: usize) -> u32
+    requires { k + 3 < 2 ^ 64 }
+    ensures { result ≡ le32 b.now k }
 {
-    let mut bytes = [0; N];
-    if let Some(rest) = b.get(k..) {
-        bytes[..rest.len()].copy_from_slice(rest);
-    }
-    bytes
+    join32(two(b, k), two(b, k + 2))
+}
+
+// The same of bytes that the image has: one test for the whole number.
+fn byte_within(b: &[u8], k: usize) -> u8
+    requires { k < length b.now }
+    ensures { result ≡ byte_at b.now k }
+{
+    b[k]
+}
+
+fn two_within(b: &[u8], k: usize) -> u16
+    requires { k + 1 < length b.now }
+    ensures { result ≡ le16 b.now k }
+{
+    let low = byte_within(b, k);
+    let high = byte_within(b, k + 1);
+    join16(low, high)
+}
+
+fn four_within(b: &[u8], k: usize) -> u32
+    requires { k + 3 < length b.now }
+    ensures { result ≡ le32 b.now k }
+{
+    join32(two_within(b, k), two_within(b, k + 2))
 }

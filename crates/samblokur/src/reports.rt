@@ -1,4 +1,4 @@
-// The report of each answer: its number, the record it names, and how the call ended.
+// The report of each answer: its number, the record it names, and how the call ended. All are numbers, for C.
 ghost use Rattle.std.specs.Prelude.{◌≡◌};
 ghost use Rattle.samblokur.specs.Reports.{report_of, verdict_report, run_report};
 
