@@ -1,14 +1,14 @@
 // A comparison that cannot fail is no check: one place of each part of state, card and list is changed.
 use super::refuse::held;
 use std::io;
-use telling::{Left, kept, same};
+use telling::{Left, kept};
 
 fn told<F: FnOnce(&mut Left)>(rt: &impl Print, part: &str, change: F) -> io::Result<()>
     requires { F.IsAlwaysCallable change }
 {
     let mut left = held();
     change(&mut left);
-    print!(rt; "{part}{}", kept(same(&held(), &left)))
+    print!(rt; "{part}{}", kept(held() == left))
 }
 
 fn places(rt: &impl Print) -> io::Result<()> {

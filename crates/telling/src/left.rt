@@ -1,6 +1,6 @@
 // Each call on a state and a card: its answer, and whether state, card and list are kept.
 use super::answers::{Ended, Judged};
-use super::compared::{Left, same};
+use super::compared::Left;
 use super::words::kept;
 use plexil::Ran;
 use std::io;
@@ -11,7 +11,7 @@ pub fn fresh(rt: &impl Print, image: &[u8], held: &Left) -> io::Result<()> {
         state: r.state,
         card: r.card,
     };
-    print!(rt; ", fresh{}{}", Judged(r.verdict), kept(same(held, &after)))
+    print!(rt; ", fresh{}{}", Judged(r.verdict), kept(*held == after))
 }
 
 // What a run or a turn answered, and whether it left this state and card, and the list as it was.
@@ -24,7 +24,7 @@ fn told(rt: &impl Print, r: &Ran, list: &[u32; 4], left: &Left) -> io::Result<()
         "{} next {}{}{}",
         Ended(r),
         r.next,
-        kept(same(left, &after)),
+        kept(*left == after),
         kept(*list == [9; 4])
     )
 }

@@ -8,7 +8,7 @@ mod plays;
 mod words;
 
 pub use answers::{Ended, Judged};
-pub use compared::{Left, same};
+pub use compared::Left;
 pub use left::{fresh, run, run_to, turn, turn_to};
 pub use plays::{after, check, judge, play, start};
 pub use words::{first, kept, root, second, x, y};
