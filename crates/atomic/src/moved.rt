@@ -122,6 +122,7 @@ pub fn sent_by(image: &[u8], mk: &[u8], i: u16, m: Move) -> u8
     }
 }
 
+// Case by case: of `matches!` over the effect inside the move the proof did not close.
 #[tactic(auto, unfolding(plexil::specs::Micro::is_judged))]
 fn is_judged(e: Effect) -> bool
     ensures { result ≡ is_judged e }

@@ -28,15 +28,7 @@ pub fn step(image: &[u8], s: &State, part: &mut [u32]) -> Stepped
     let n = image::node_count(image);
     let mut carry = Carry::nothing(s);
     let mut sent = [0u8; 256];
-    if !walk(
-        image,
-        &before,
-        n,
-        &tests.finished,
-        &tests.resting,
-        &mut carry,
-        &mut sent,
-    ) {
+    if !walk(image, &before, n, &tests, &mut carry, &mut sent) {
         return Stepped::Quiet;
     }
     let words = count_words(&sent, n);

@@ -50,3 +50,4 @@ pub mod Stuttering
 pub mod RunQuiescence
 pub mod QuiescenceRun
 pub mod MacroCalls
+pub mod OneTested

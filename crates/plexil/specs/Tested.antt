@@ -1,5 +1,5 @@
 -- What the tests before a run or a turn answer: what is given is accepted, or the first broken one refuses.
-use Rattle.std.specs.Prelude.{Result, Ok, Err}
+use Rattle.std.specs.Prelude.{◌≡◌, Result, Ok, Err}
 use Rattle.plexil.specs.declared.RunAnswer.{RunAnswer}
 
 pub data Tested : Type 0 where
@@ -10,3 +10,7 @@ pub data Tested : Type 0 where
 abbrev pub tested_of : Result Unit RunAnswer → Tested
 tested_of (Ok u) = Accepted
 tested_of (Err a) = Refused a
+
+-- "Any two replies it permits are proved equal": the contracts of the tests are this equation
+abbrev pub OneTested : Type 0
+OneTested = (a b : Result Unit RunAnswer) (t : Tested) → tested_of a ≡ t → tested_of b ≡ t → a ≡ b

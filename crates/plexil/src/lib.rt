@@ -104,7 +104,8 @@ pub enum Effect {
     Judged,
 }
 
-// What a node does in a micro step. Stay: no rule applies. An enum of its own and no Option: what may not change, the definition move_of and the theorems on it speak of Stay and Go.
+// What a node does in a micro step. Stay: no rule applies. An enum of its own and no Option: what may not change, atomic::move_of answers the definition's move_of,
+// and the theorems of specs/FrameworkPromises and specs/Promises speak of Stay and Go.
 #[derive(Clone, Copy)]
 pub enum Move {
     Stay,
@@ -137,8 +138,8 @@ pub enum Rule {
     Reach,
 }
 
-// The check's verdict: the lowest broken rule, with the lowest record number that breaks it. An enum of its own and no Result: what may not change, the definition
-// verdict and the theorems on it (refused-exact, admitted-exact) speak of Admitted and Refused.
+// The check's verdict: the lowest broken rule, with the lowest record number that breaks it. An enum of its own and no Result: what may not change, admit::check,
+// plan::open and turns::fresh answer it, and the theorems refused-exact and admitted-exact speak of Admitted and Refused.
 #[derive(Clone, Copy)]
 pub enum Verdict {
     Admitted,

@@ -1,4 +1,4 @@
-// The library that a host in C links: each entry function of `samblokur` under its name in C, with the same clauses.
+// The library that a host in C links: each entry function of `samblokur` under its name in C, with the same clauses. Numbers and lent memory: the C interface.
 #![tactic(auto)]
 
 ghost use Rattle.samblokur.specs.Permits.{CheckLeaves, FreshLeaves, RunLeaves, EventLeaves};

@@ -1,4 +1,4 @@
-// The entry function, thin over the call by value, with no branch.
+// The entry function, thin over the call by value, with no branch. It answers a number and fills lent memory, as the C interface does: samblokur_text_c exports it with these clauses.
 ghost use Rattle.std.specs.Prelude.{◌≡◌};
 ghost use Rattle.notation.specs.Reading.{read_reply};
 ghost use Rattle.samblokur_text.specs.Report.{report_of};

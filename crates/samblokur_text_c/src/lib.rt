@@ -1,4 +1,4 @@
-// The library that a desk links to read plans as text from C: the entry function of `samblokur_text` under its name in C, with the same clauses.
+// The library that a desk links to read plans as text from C: the entry function of `samblokur_text` under its name in C, with the same clauses. A number and lent memory: the C interface.
 #![tactic(auto)]
 
 ghost use Rattle.std.specs.Prelude.{◌≡◌};

@@ -21,7 +21,7 @@ fn lost(image: &[u8], carry: &Carry, i: u16) -> bool
     get_or(&carry.wrote, i, false) && !leads(image, carry, i)
 }
 
-// "Every loser gets Failure, WriteLost, whatever Post says".
+// "Every loser gets Failure, WriteLost, whatever Post says", 2 and 5 by the codes that a state keeps.
 pub(crate) fn settle_places(
     image: &[u8],
     carry: &Carry,

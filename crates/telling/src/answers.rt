@@ -1,5 +1,5 @@
 // The names and numbers of verdicts and answers, each after a space.
-// A `Display` of plexil's own types would stand in plexil, which has no function: so each is told in a type of this crate.
+// Each is told in a type of this crate: a `Display` of plexil's own types would make the words of two test programs a promise of the library.
 use admit::rule_number;
 use plexil::{Ran, RunAnswer, Verdict};
 use std::fmt;

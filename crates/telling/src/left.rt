@@ -1,6 +1,6 @@
 // Each call on a state and a card: its answer, and whether state, card and list are kept.
 use super::answers::{Ended, Judged};
-use super::compared::Left;
+use super::given::Left;
 use super::words::kept;
 use plexil::Ran;
 use std::io;

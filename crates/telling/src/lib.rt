@@ -2,13 +2,13 @@
 #![tactic(auto)]
 
 mod answers;
-mod compared;
+mod given;
 mod left;
 mod plays;
 mod words;
 
 pub use answers::{Ended, Judged};
-pub use compared::Left;
+pub use given::Left;
 pub use left::{fresh, run, run_to, turn, turn_to};
 pub use plays::{after, check, judge, play, start};
 pub use words::{first, kept, root, second, x, y};

@@ -1,17 +1,18 @@
 // "a visit reads only the state before the step and what earlier visits carried on", and the walk over the nodes in order.
 #![tactic(auto)]
 
-ghost use Rattle.std.specs.Prelude.{◌≡◌, not, false, ℕ, ◌<◌, get_or, set, length};
+ghost use Rattle.std.specs.Prelude.{◌≡◌, not, ℕ, ◌<◌, set, length};
 ghost use Rattle.plexil.specs.Lists.{all_below, renew};
 ghost use Rattle.plexil.specs.Image.{node_count};
 ghost use Rattle.plexil.specs.Lent.{state_lent};
 ghost use Rattle.plexil.specs.Atomic.{children, is_finished, is_resting, move_of};
+ghost use Rattle.atomic.specs.Children.{Answered};
 ghost use Rattle.plexil.specs.Micro.{sent as sentOf, stays};
 ghost use Rattle.plexil.specs.Order.{put_place, meet, visit, walk_to};
 ghost use Rattle.plexil.specs.Carried.{carry_in};
 ghost use Rattle.plexil.specs.Promises.{IsAdmitted, IsKept};
 
-use atomic::{applies, move_of, place_by, sent_by, writes};
+use atomic::{ChildTests, applies, move_of, place_by, sent_by, writes};
 use plexil::{Before, Carry, Cell, Place};
 
 // The next places so far, with node i's, and whether it wrote.
@@ -82,14 +83,11 @@ pub fn walk(
     image: &[u8],
     before: &Before,
     n: u16,
-    finished: &[bool; 256],
-    resting: &[bool; 256],
+    tests: &ChildTests,
     carry: &mut Carry,
     sent: &mut [u8; 256],
 ) -> bool
-    requires { IsAdmitted image.now × IsKept image.now (state_lent before.now) × (n ≡ node_count image.now) × (length sent.old ≡ 256)
-        × ((i : ℕ) → i < 256 → get_or finished.now i false ≡ children image.now (state_lent before.now) i is_finished)
-        × ((i : ℕ) → i < 256 → get_or resting.now i false ≡ children image.now (state_lent before.now) i is_resting) }
+    requires { IsAdmitted image.now × IsKept image.now (state_lent before.now) × (n ≡ node_count image.now) × (length sent.old ≡ 256) × Answered image.now before.now.seen.status.now tests.now }
     ensures { (result ≡ not (all_below (node_count image.now) (λ (i : ℕ). stays (move_of image.now (state_lent before.now) i))))
         × (carry_in carry.new ≡ walk_to image.now (state_lent before.now) (carry_in carry.old) (node_count image.now))
         × (sent.new ≡ renew (node_count image.now) (sentOf image.now (state_lent before.now)) sent.old) }
@@ -97,7 +95,15 @@ pub fn walk(
     let mut moved = false;
     for i in 0..n {
         let k = i as usize;
-        moved |= visit_node(image, before, i, finished[k], resting[k], carry, sent);
+        moved |= visit_node(
+            image,
+            before,
+            i,
+            tests.finished[k],
+            tests.resting[k],
+            carry,
+            sent,
+        );
     }
     moved
 }

@@ -13,14 +13,14 @@ pub loop-i-init : goal.loop-i-init
 unfolding all_below
 loop-i-init c = (refl, sym (walk_to-zero _ _ _), sym (renew-none _ _))
 
-pub bounds-finished-k : goal.bounds-finished-k
-bounds-finished-k c = omega (arith, few-nodes _ c.requires.0, c.requires.2)
+pub bounds-tests-k : goal.bounds-tests-k
+bounds-tests-k c = omega (arith, few-nodes _ c.requires.0, c.requires.2)
 
-pub bounds-resting-k : goal.bounds-resting-k
-bounds-resting-k c = omega (arith, few-nodes _ c.requires.0, c.requires.2)
+pub bounds-tests-k-in-loop-i : goal.bounds-tests-k-in-loop-i
+bounds-tests-k-in-loop-i c = omega (arith, few-nodes _ c.requires.0, c.requires.2)
 
 pub visit_node-moved-requires : goal.visit_node-moved-requires
-visit_node-moved-requires c = (c.requires.0, c.requires.1, omega (arith, c.requires.2), c.requires.4 _ (omega (arith, few-nodes _ c.requires.0, c.requires.2)), c.requires.5 _ (omega (arith, few-nodes _ c.requires.0, c.requires.2)))
+visit_node-moved-requires c = (c.requires.0, c.requires.1, omega (arith, c.requires.2), c.requires.4.finished _ (omega (arith, few-nodes _ c.requires.0, c.requires.2)), c.requires.4.resting _ (omega (arith, few-nodes _ c.requires.0, c.requires.2)))
 
 pub loop-i-preserved : goal.loop-i-preserved
 loop-i-preserved c = (
