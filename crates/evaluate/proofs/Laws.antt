@@ -11,7 +11,7 @@ use Rattle.plexil.specs.declared.Condition.{Condition}
 use Rattle.plexil.specs.Bytes.{le16}
 use Rattle.plexil.specs.Image.{Image, exprs_at, expr_at, result_kind, operand_a, operand_b, constant}
 use Rattle.plexil.specs.Places.{Seen}
-use Rattle.plexil.specs.Expressions.{Binary, binary, operator_of, leaf_of, binary_of, answer_of}
+use Rattle.plexil.specs.Expressions.{operator_of, leaf_of, answer_of}
 use Rattle.plexil.specs.Atomic.{condition, default_of}
 use Rattle.plexil.proofs.ListLaws.{tested, same?}
 use Rattle.plexil.proofs.OperatorNumbers.{a-leaf, no-operator, NoneOf, past}
@@ -20,13 +20,9 @@ use Rattle.evaluate.specs.Condition.{condition_or}
 use Rattle.evaluate.specs.Leaves.{leaf_answer}
 
 -- ---- the answer of two operands by the operator's number
-pub join-binary : (o : Binary) (x y : Worked) {n k : ℕ} {r : Worked} → n ≡ k → operator_of k ≡ binary o → r ≡ binary_of o x y → r ≡ join_of (operator_of n) x y
-unfolding join_of
-join-binary o x y h q er = rw (h, q) er
-
-pub join-none : (n : ℕ) (x y : Worked) → NoneOf 7 8 n → Clash ≡ join_of (operator_of n) x y
+pub join_none : (n : ℕ) (x y : Worked) → NoneOf 7 8 n → Clash ≡ join_of (operator_of n) x y
 unfolding join_of operator_of
-join-none n x y h =
+join_none n x y h =
     ⊎_elim (λ t. rw (a-leaf n (ltb-true n 6 t)).1)
     (λ t. ⊎_elim (λ (e : n ≡ 6). rw e) (λ e. rw (no-operator n (omega (arith, past 7 8 n h (omega (arith, e, ltb-false n 6 t)))))) (same? n 6))
     (tested (ltb n 6))
@@ -57,9 +53,9 @@ leaf-answers p s e sub {base} {op} at l = by op refl l
     by (suc (suc (suc (suc (suc (suc k)))))) h g = absurd (omega arith)
 
 -- ---- a number past 5 is no leaf
-pub no-leaf : (p : Image) (at op : ℕ) (s : Seen) → NoneOf 0 6 op → Clash ≡ leaf_answer p at op s
+pub no_leaf : (p : Image) (at op : ℕ) (s : Seen) → NoneOf 0 6 op → Clash ≡ leaf_answer p at op s
 unfolding leaf_answer
-no-leaf p at op s h = ap (λ (k : ℕ). leaf_answer p at k s) {x = suc (suc (suc (suc (suc (suc (op - 6))))))} {y = op} (omega (arith, past 0 6 op h (omega arith)))
+no_leaf p at op s h = ap (λ (k : ℕ). leaf_answer p at k s) {x = suc (suc (suc (suc (suc (suc (op - 6))))))} {y = op} (omega (arith, past 0 6 op h (omega arith)))
 
 -- ---- a node's condition: `normal` is its default
 pub condition-or : (p : Image) (s : Seen) (i : ℕ) (c : Condition) → condition p s i c ≡ condition_or p s i c (default_of p s i c)

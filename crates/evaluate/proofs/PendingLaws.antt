@@ -1,178 +1,114 @@
--- One turn of the evaluation: what is pending and what goes on answer as before, in fewer turns.
-use Prim.Native.Nat.{ℕ, zero, suc, ◌+◌, ◌-◌, ◌≤◌, ◌<◌}
+-- One turn of the evaluation: it answers as the definition does, and what is pending below the top stays.
+use Prim.Native.Nat.{ℕ, zero, suc, ◌+◌, ◌-◌, ◌*◌, ◌≤◌, ◌<◌}
 use mathlib.Core.Path.{◌≡◌, refl, sym, ap, ◌∙◌}
-use mathlib.Core.Bool.{Bool, true, false}
 use mathlib.Core.List.{List}
 use native.Mathlib.Omega.{arith}
-use native.Mathlib.Numerals.{add-one}
 use lib.ListN.{length, get_or, set}
-use lib.Dec.{eqb, ltb}
 use lib.Seq.{get_or-set_same, get_or-set_other}
-use borrow.Author.Tests.{ne_eqb, lt-ltb, le-ltb}
 use Rattle.plexil.specs.declared.Worked.{Worked}
 use Rattle.plexil.specs.declared.Worked.TheVariants.{Clash}
-use Rattle.plexil.specs.Lists.{when◌then◌else◌}
-use Rattle.plexil.specs.Values.{not_of}
-use Rattle.plexil.specs.Image.{Image}
+use Rattle.plexil.specs.Image.{Image, exprs_at, expr_at, operator}
+use Rattle.plexil.specs.Bytes.{byte_at, le16}
 use Rattle.plexil.specs.Places.{Seen}
-use Rattle.plexil.specs.Expressions.{operator_of, eval_of}
+use Rattle.plexil.specs.Expressions.{Operator, Leaf, leaf, binary, not_op, no_operator, operator_of, operator_at, answer_of, eval_of}
+use Rattle.plexil.proofs.OperatorNumbers.{a-leaf, a-binary, no-operator}
 use Rattle.evaluate.specs.Binary.{join_of}
-use Rattle.evaluate.specs.Pending.{ended_of, resumed, turns_of, turns_to_end, pending_turns, current_turns}
+use Rattle.evaluate.specs.Leaves.{leaf_answer}
+use Rattle.evaluate.specs.Pending.{entered_by, entered_of, ended_of, resumed, turns_of, turns_to_end, pending_turns}
+use Rattle.evaluate.specs.declared.entries.Pending.{Pending}
+use Rattle.evaluate.specs.declared.entries.Pending.TheVariants.{Not, First, Second}
+use Rattle.evaluate.specs.declared.entries.Entry.{Entry}
+use Rattle.evaluate.specs.declared.entries.Entry.TheVariants.{Value, Operand}
+use Rattle.evaluate.proofs.Laws.{is-a, is_b, leaf-answers}
 
--- ---- a pending operator ends
-module _ (p : Image) (s : Seen) (left b : ℕ) (x v : Worked) where
-  pub ended-not : ended_of p s left 6 b x v ≡ not_of v
-  unfolding ended_of when◌then◌else◌
-  ended-not = refl
+-- ---- the turn of an entry, whose section stands at base, by its depth and the number of its operator
+pub entered_deep : (p : Image) (s : Seen) (depth e : ℕ) → 12 ≤ depth → Value Clash ≡ entered_of p s (12 - depth) e
+unfolding entered_of
+entered_deep p s depth e h = ap (λ k. entered_of p s k e) {x = 0} {y = 12 - depth} (omega (arith, h))
 
-  pub ended-first : (op : ℕ) → (op ≡ 6 → ⊥) → op < 16 → ended_of p s left op b x v ≡ join_of (operator_of op) v (eval_of p s left b)
-  unfolding ended_of when◌then◌else◌
-  ended-first op h l = rw (ne_eqb op 6 h, lt-ltb op 16 l)
+module _ (p : Image) (s : Seen) (e : ℕ) {depth base op : ℕ} (deep : 12 ≤ depth → ⊥) (at : base ≡ exprs_at p) (is : op ≡ byte_at p (base + 16 * e)) where
+  entered-is : entered_by (operator_of op) p s e ≡ entered_of p s (12 - depth) e
+  unfolding entered_of operator_at operator expr_at
+  entered-is = rw (is, at) (sym (ap (λ k. entered_of p s k e) (pred_of depth deep)))
+    where
+      pred_of : (d : ℕ) → (12 ≤ d → ⊥) → 12 - d ≡ suc (11 - d)
+      pred_of d n = omega (arith, n)
 
-  ended-second : (op : ℕ) → 16 ≤ op → ended_of p s left op b x v ≡ join_of (operator_of (op - 16)) x v
-  unfolding ended_of when◌then◌else◌
-  ended-second op l = rw (ne_eqb op 6 (λ (e : op ≡ 6). omega arith), le-ltb op 16 l)
+  pub entered_leaf : op < 6 → (v : Worked) → v ≡ leaf_answer p (base + 16 * e) op s → Value v ≡ entered_of p s (12 - depth) e
+  unfolding entered_by answer_of
+  entered_leaf l v h = rw h (by (operator_of op) (a-leaf op l).0 (a-leaf op l).1 (leaf-answers p s e (λ x. Clash) at l) entered-is)
+    where
+      by : (o : Operator) (f : Leaf) → o ≡ leaf f → {v : Worked} {t : Entry} → v ≡ answer_of o p s e (λ x. Clash) → entered_by o p s e ≡ t → Value v ≡ t
+      by o f g h t = ap Value (rw g at h) ∙ (rw g at t)
+
+  pub entered_none : 14 < op → Value Clash ≡ entered_of p s (12 - depth) e
+  unfolding entered_by
+  entered_none l = rw (no-operator op l) at entered-is
+
+  pub entered_not : op ≡ 6 → (a : ℕ) → a ≡ le16 p (base + 16 * e + 2) → Operand Not a ≡ entered_of p s (12 - depth) e
+  unfolding entered_by operator_of
+  entered_not l a h = rw (is-a p e at h) (rw l at entered-is)
+
+  pub entered_binary : 6 < op → op ≤ 14 → (a b : ℕ) → a ≡ le16 p (base + 16 * e + 2) → b ≡ le16 p (base + 16 * e + 4) → Operand (First op b) a ≡ entered_of p s (12 - depth) e
+  unfolding entered_by operator expr_at
+  entered_binary l g a b h k = rw (is-a p e at h, is_b p e at k, is, at) (rw (a-binary op l g).1 at entered-is)
+
+-- ---- an entry that comes to a value, and one whose operator waits, which has a level for its operands
+abbrev pub Answers : Image → Seen → ℕ → Worked → Entry → Type 0
+Answers p s left r (Value v) = v ≡ r
+Answers p s left r (Operand w a) = (0 < left) × (ended_of p s (left - 1) w (eval_of p s (left - 1) a) ≡ r)
+
+pub entered-answers : (p : Image) (s : Seen) (left e : ℕ) → Answers p s left (eval_of p s left e) (entered_of p s left e)
+unfolding entered_of entered_by eval_of answer_of ended_of join_of operator_at
+entered-answers p s zero e = refl
+entered-answers p s (suc left) e = by (operator_at p e) refl
+  where
+    one : suc left - 1 ≡ left
+    one = omega arith
+
+    by : (o : Operator) → operator_at p e ≡ o → Answers p s (suc left) (answer_of o p s e (λ x. eval_of p s left x)) (entered_by o p s e)
+    by (leaf o) h = refl
+    by not_op h = (omega arith, rw one refl)
+    by (binary o) h = (omega arith, rw (one, h) refl)
+    by no_operator h = refl
 
 -- ---- what is pending below n is told by the places below n
-abbrev Alike {ℓ} : {A : Type ℓ} → A → ℕ → List A → List A → Type ℓ
-Alike {A = A} d n l m = (i : ℕ) → i < n → get_or l i d ≡ get_or m i d
+abbrev Alike : ℕ → List Pending → List Pending → Type 0
+Alike n l m = (i : ℕ) → i < n → get_or l i Not ≡ get_or m i Not
 
-alike_set {ℓ} : {A : Type ℓ} (d : A) (l : List A) (n k : ℕ) (a : A) → n ≤ k → Alike d n (set l k a) l
-alike_set d l n k a h i j = get_or-set_other l k i a d (λ (e : i ≡ k). omega arith)
+alike-set : (l : List Pending) (n : ℕ) (w : Pending) → Alike n (set l n w) l
+alike-set l n w i j = get_or-set_other l n i w Not (λ (e : i ≡ n). omega arith)
 
-alike_self {ℓ} : {A : Type ℓ} (d : A) (l : List A) (n : ℕ) → Alike d n l l
-alike_self d l n i j = refl
-
-resumed-alike : (p : Image) (s : Seen) (n : ℕ) (ops ops' seconds seconds' : List ℕ) (firsts firsts' : List Worked) (left : ℕ) (v : Worked)
-    → Alike 0 n ops ops' → Alike 0 n seconds seconds' → Alike Clash n firsts firsts'
-    → resumed p s n ops seconds firsts left v ≡ resumed p s n ops' seconds' firsts' left v
+resumed-alike : (p : Image) (s : Seen) (n : ℕ) (l m : List Pending) (left : ℕ) (v : Worked) → Alike n l m → resumed p s n l left v ≡ resumed p s n m left v
 unfolding resumed
-resumed-alike p s zero ops o seconds b firsts x left v f g h = refl
-resumed-alike p s (suc n) ops o seconds b firsts x left v f g h =
-    rw (f n (omega arith), g n (omega arith), h n (omega arith))
-    (resumed-alike p s n ops o seconds b firsts x (suc left) (ended_of p s left (get_or o n 0) (get_or b n 0) (get_or x n Clash) v)
-    (λ i l. f i (omega arith)) (λ i l. g i (omega arith)) (λ i l. h i (omega arith)))
+resumed-alike p s zero l m left v f = refl
+resumed-alike p s (suc n) l m left v f = rw (f n (omega arith)) (resumed-alike p s n l m (suc left) (ended_of p s left (get_or m n Not) v) (λ i h. f i (omega arith)))
 
-turns-alike : (n : ℕ) (ops ops' : List ℕ) (left : ℕ) → Alike 0 n ops ops' → pending_turns n ops left ≡ pending_turns n ops' left
+turns-alike : (n : ℕ) (l m : List Pending) (left : ℕ) → Alike n l m → pending_turns n l left ≡ pending_turns n m left
 unfolding pending_turns
-turns-alike zero ops o left f = refl
-turns-alike (suc n) ops o left f =
-    rw (f n (omega arith)) (ap (λ (k : ℕ). turns_to_end (get_or o n 0) left + k) (turns-alike n ops o (suc left) (λ i l. f i (omega arith))))
+turns-alike zero l m left f = refl
+turns-alike (suc n) l m left f =
+    rw (f n (omega arith)) (ap (λ (k : ℕ). turns_to_end left (get_or m n Not) + k) (turns-alike n l m (suc left) (λ i h. f i (omega arith))))
 
--- ---- the turns of the loop; n operators are pending, their arrays have twelve places
-module _ (p : Image) (s : Seen) (ops seconds : List ℕ) (firsts : List Worked) where
-  -- an operator with its second operand's entry is put on top
-  pub pushed : (n left op b : ℕ) (v : Worked) → n < length ops → n < length seconds
-      → resumed p s (suc n) (set ops n op) (set seconds n b) firsts left v ≡ resumed p s n ops seconds firsts (suc left) (ended_of p s left op b (get_or firsts n Clash) v)
-  unfolding resumed
-  pushed n left op b v h g =
-      rw (get_or-set_same ops n op 0 h, get_or-set_same seconds n b 0 g)
-      (resumed-alike p s n (set ops n op) ops (set seconds n b) seconds firsts firsts (suc left) (ended_of p s left op b (get_or firsts n Clash) v)
-      (alike_set 0 ops n n op (omega arith)) (alike_set 0 seconds n n b (omega arith)) (alike_self Clash firsts n))
+-- ---- an operator is put in place n, and its operand is gone into
+pub pushed : (p : Image) (s : Seen) (pending : List Pending) (n left : ℕ) (w : Pending) (v : Worked) → n < length pending
+    → resumed p s (suc n) (set pending n w) left v ≡ resumed p s n pending (suc left) (ended_of p s left w v)
+unfolding resumed
+pushed p s pending n left w v h = rw (get_or-set_same pending n w Not h) (resumed-alike p s n (set pending n w) pending (suc left) (ended_of p s left w v) (alike-set pending n w))
 
-  -- NOT ends
-  pub popped-not : (n left : ℕ) (v : Worked) → get_or ops n 0 ≡ 6 → resumed p s (suc n) ops seconds firsts left v ≡ resumed p s n ops seconds firsts (suc left) (not_of v)
-  unfolding resumed
-  popped-not n left v e = rw e (ap (λ (x : Worked). resumed p s n ops seconds firsts (suc left) x) (ended-not p s left (get_or seconds n 0) (get_or firsts n Clash) v))
+pub push-turns : (pending : List Pending) (n left : ℕ) (w : Pending) → n < length pending
+    → pending_turns (suc n) (set pending n w) left ≡ turns_to_end left w + pending_turns n pending (suc left)
+unfolding pending_turns
+push-turns pending n left w h =
+    rw (get_or-set_same pending n w Not h) (ap (λ (k : ℕ). turns_to_end left w + k) (turns-alike n (set pending n w) pending (suc left) (alike-set pending n w)))
 
-  -- the first operand's value is kept, and the second is gone into
-  pub turned : (n left : ℕ) (v : Worked) → n < length ops → n < length firsts → (get_or ops n 0 ≡ 6 → ⊥) → get_or ops n 0 < 16
-      → resumed p s (suc n) ops seconds firsts left v
-      ≡ resumed p s (suc n) (set ops n (get_or ops n 0 + 16)) seconds (set firsts n v) left (eval_of p s left (get_or seconds n 0))
-  unfolding resumed
-  turned n left v h g e l =
-      ap (λ (x : Worked). resumed p s n ops seconds firsts (suc left) x) (ended-first p s left (get_or seconds n 0) (get_or firsts n Clash) v (get_or ops n 0) e l)
-      ∙ rw (get_or-set_same ops n (get_or ops n 0 + 16) 0 h, get_or-set_same firsts n v Clash g)
-      (ap (λ (x : Worked). resumed p s n ops seconds firsts (suc left) x) again
-      ∙ sym (resumed-alike p s n (set ops n (get_or ops n 0 + 16)) ops seconds seconds (set firsts n v) firsts (suc left)
-      (ended_of p s left (get_or ops n 0 + 16) (get_or seconds n 0) v (eval_of p s left (get_or seconds n 0)))
-      (alike_set 0 ops n n (get_or ops n 0 + 16) (omega arith)) (alike_self 0 seconds n) (alike_set Clash firsts n n v (omega arith))))
-    where
-      back : get_or ops n 0 + 16 - 16 ≡ get_or ops n 0
-      back = omega arith
-
-      again : join_of (operator_of (get_or ops n 0)) v (eval_of p s left (get_or seconds n 0))
-          ≡ ended_of p s left (get_or ops n 0 + 16) (get_or seconds n 0) v (eval_of p s left (get_or seconds n 0))
-      again = sym (ended-second p s left (get_or seconds n 0) v (eval_of p s left (get_or seconds n 0)) (get_or ops n 0 + 16) (omega arith) ∙ rw back refl)
-
-  -- both operands have their values
-  pub popped : (n left : ℕ) (v : Worked) → 16 ≤ get_or ops n 0
-      → resumed p s (suc n) ops seconds firsts left v ≡ resumed p s n ops seconds firsts (suc left) (join_of (operator_of (get_or ops n 0 - 16)) (get_or firsts n Clash) v)
-  unfolding resumed
-  popped n left v l = ap (λ (x : Worked). resumed p s n ops seconds firsts (suc left) x) (ended-second p s left (get_or seconds n 0) (get_or firsts n Clash) v (get_or ops n 0) l)
-
--- ---- and the turns that are left
-module _ (ops : List ℕ) (n left : ℕ) where
-  push-turns : (op : ℕ) → n < length ops → op < 16 → pending_turns (suc n) (set ops n op) left ≤ turns_of left + 2 + pending_turns n ops (suc left)
-  unfolding pending_turns turns_to_end when◌then◌else◌
-  push-turns op h l =
-      rw (get_or-set_same ops n op 0 h, turns-alike n (set ops n op) ops (suc left) (alike_set 0 ops n n op (omega arith)), lt-ltb op 16 l)
-      (by (eqb op 6))
-    where
-      by : (t : Bool) → (when t then 1 else turns_of left + 2) + pending_turns n ops (suc left) ≤ turns_of left + 2 + pending_turns n ops (suc left)
-      by true = omega arith
-      by false = omega arith
-
-  pop-turns : pending_turns n ops (suc left) < pending_turns (suc n) ops left
-  unfolding pending_turns turns_to_end when◌then◌else◌
-  pop-turns = by (eqb (get_or ops n 0) 6) (ltb (get_or ops n 0) 16)
-    where
-      by : (t u : Bool) → pending_turns n ops (suc left) < (when t then 1 else (when u then turns_of left + 2 else 1)) + pending_turns n ops (suc left)
-      by true u = omega arith
-      by false true = omega arith
-      by false false = omega arith
-
-  turn-turns : (op : ℕ) → n < length ops → get_or ops n 0 ≡ op → (op ≡ 6 → ⊥) → op < 16 → turns_of left + pending_turns (suc n) (set ops n (op + 16)) left < pending_turns (suc n) ops left
-  unfolding pending_turns turns_to_end when◌then◌else◌
-  turn-turns op h e d l =
-      rw (
-        get_or-set_same ops n (op + 16) 0 h,
-        turns-alike n (set ops n (op + 16)) ops (suc left) (alike_set 0 ops n n (op + 16) (omega arith)),
-        e,
-        ne_eqb op 6 d,
-        lt-ltb op 16 l,
-        ne_eqb (op + 16) 6 (λ (q : op + 16 ≡ 6). omega arith),
-        le-ltb (op + 16) 16 (omega arith),
-      )
-      (omega arith)
-
-some-turns : (d : ℕ) → 0 < turns_of d
+pub some-turns : (left : ℕ) → 0 < turns_of left
 unfolding turns_of
 some-turns zero = omega arith
-some-turns (suc d) = omega arith
+some-turns (suc left) = omega arith
 
--- ---- each turn of the loop leaves fewer
-pub up-less : (down : Bool) (left k : ℕ) → down ≡ true → current_turns false left + k < current_turns down left + k
-unfolding current_turns when◌then◌else◌
-up-less down left k e = rw e (omega (arith, some-turns left))
-
-pub push-less : (down : Bool) (ops : List ℕ) (n left op : ℕ) → down ≡ true → (left ≡ 0 → ⊥) → n < length ops → op < 16
-    → current_turns down (left - 1) + pending_turns (n + 1) (set ops n op) (left - 1) < current_turns down left + pending_turns n ops left
-unfolding current_turns when◌then◌else◌ turns_of
-push-less down ops n left op e deep h l =
-    rw (e, add-one n) (by (left - 1) (above left deep))
-  where
-    above : (left : ℕ) → (left ≡ 0 → ⊥) → left ≡ suc (left - 1)
-    above left g = omega (arith, g)
-
-    by : (d : ℕ) → left ≡ suc d → turns_of d + pending_turns (suc n) (set ops n op) d < turns_of left + pending_turns n ops left
-    by d g = rw g (omega (arith, push-turns ops n d op h l))
-
-module _ (down : Bool) (ops : List ℕ) (n left : ℕ) (e : down ≡ false) (some : n ≡ 0 → ⊥) where
-  is-top : (n : ℕ) → (n ≡ 0 → ⊥) → n ≡ suc (n - 1)
-  is-top n g = omega (arith, g)
-
-  pub pop-less : current_turns down (left + 1) + pending_turns (n - 1) ops (left + 1) < current_turns down left + pending_turns n ops left
-  unfolding current_turns when◌then◌else◌
-  pop-less = rw (e, add-one left) (omega (arith, by (n - 1) (is-top n some)))
-    where
-      by : (k : ℕ) → n ≡ suc k → pending_turns k ops (suc left) < pending_turns n ops left
-      by k g = rw g (pop-turns ops k left)
-
-  pub turn-less : n ≤ length ops → (get_or ops (n - 1) 0 ≡ 6 → ⊥) → get_or ops (n - 1) 0 < 16
-      → current_turns true left + pending_turns n (set ops (n - 1) (get_or ops (n - 1) 0 + 16)) left < current_turns down left + pending_turns n ops left
-  unfolding current_turns when◌then◌else◌
-  turn-less h o l = rw e (omega (arith, by (n - 1) (is-top n some) o l))
-    where
-      by : (k : ℕ) → n ≡ suc k → (get_or ops k 0 ≡ 6 → ⊥) → get_or ops k 0 < 16 → turns_of left + pending_turns n (set ops k (get_or ops k 0 + 16)) left < pending_turns n ops left
-      by k g o l = rw g (turn-turns ops k left (get_or ops k 0) (omega arith) refl o l)
+pub end-turns : (left : ℕ) (w : Pending) → (0 < turns_to_end left w) × (turns_to_end left w ≤ turns_of left + 2)
+unfolding turns_to_end
+end-turns left Not = (omega arith, omega arith)
+end-turns left (First op b) = (omega arith, omega arith)
+end-turns left (Second op x) = (omega arith, omega arith)

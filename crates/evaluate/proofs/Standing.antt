@@ -1,176 +1,130 @@
 -- What holds at each turn of the evaluation: what is pending makes the expression's value of what goes on.
-use Prim.Native.Nat.{ℕ, zero, suc, ◌+◌, ◌-◌, ◌*◌, ◌≤◌, ◌<◌}
-use mathlib.Core.Path.{◌≡◌, refl, sym, ap, ◌∙◌}
-use mathlib.Core.Bool.{Bool, true, false}
-use mathlib.Core.List.{List, [], ◌∷◌}
+use Prim.Native.Nat.{ℕ, suc, ◌+◌, ◌-◌, ◌≤◌, ◌<◌}
+use mathlib.Core.Path.{◌≡◌, sym, ap, ◌∙◌}
+use mathlib.Core.List.{List}
 use native.Mathlib.Omega.{arith}
 use native.Mathlib.Numerals.{add-one}
-use lib.ListN.{length, get_or, set, replicate, length-set}
-use lib.Dec.{eqb}
-use borrow.Author.Tests.{eqb-true, eqb-false}
+use lib.ListN.{length, get_or, set, length-set}
 use Rattle.plexil.specs.declared.Worked.{Worked}
-use Rattle.plexil.specs.declared.Worked.TheVariants.{Clash}
-use Rattle.plexil.specs.Lists.{when◌then◌else◌}
-use Rattle.plexil.specs.Values.{not_of}
-use Rattle.plexil.specs.Bytes.{byte_at, le16}
-use Rattle.plexil.specs.Image.{Image, exprs_at, expr_at, operator, operand_a, operand_b}
+use Rattle.plexil.specs.Image.{Image}
 use Rattle.plexil.specs.Places.{Seen}
-use Rattle.plexil.specs.Expressions.{operator_of, operator_at, answer_of, eval_of, value_of}
-use Rattle.plexil.proofs.OperatorNumbers.{a-binary, no-operator}
-use Rattle.evaluate.specs.Binary.{join_of}
-use Rattle.evaluate.specs.Leaves.{leaf_answer}
-use Rattle.evaluate.specs.Pending.{ended_of, resumed, current}
-use Rattle.evaluate.proofs.Laws.{is-a, is_b, leaf-answers}
-use Rattle.evaluate.proofs.PendingLaws.{ended-not, ended-first, pushed, popped-not, turned, popped}
+use Rattle.plexil.specs.Expressions.{eval_of, value_of}
+use Rattle.evaluate.specs.Pending.{entered_of, ended_of, resumed, current, turns_of, turns_to_end, pending_turns, current_turns}
+use Rattle.evaluate.specs.declared.entries.Pending.{Pending}
+use Rattle.evaluate.specs.declared.entries.Pending.TheVariants.{Not, First, Second}
+use Rattle.evaluate.specs.declared.entries.Entry.{Entry}
+use Rattle.evaluate.specs.declared.entries.Entry.TheVariants.{Value, Operand}
+use Rattle.evaluate.specs.declared.entries.Turn.{Turn}
+use Rattle.evaluate.specs.declared.entries.Turn.TheVariants.{Down, Up}
+use Rattle.evaluate.proofs.PendingLaws.{Answers, entered-answers, pushed, push-turns, some-turns, end-turns}
 
--- e₀ is the entry that is asked for
-pub record Standing (p : Image) (s : Seen) (e₀ : ℕ) (ops seconds : List ℕ) (firsts : List Worked) (n left : ℕ) (down : Bool) (e : ℕ) (v : Worked) : Type 0 where
-  pub operators : length ops ≡ 12
-  pub entries : length seconds ≡ 12
-  pub values : length firsts ≡ 12
-  pub levels : n + left ≡ 12
-  pub answers : resumed p s n ops seconds firsts left (current p s down left e v) ≡ value_of p s e₀
+-- e₀ is the entry that is asked for; n operators are pending
+pub record Standing (p : Image) (s : Seen) (e₀ : ℕ) (pending : List Pending) (n : ℕ) (turn : Turn) : Type 0 where
+  pub places : length pending ≡ 12
+  pub levels : n ≤ 12
+  pub answers : resumed p s n pending (12 - n) (current p s (12 - n) turn) ≡ value_of p s e₀
 
--- ---- entries that fit 16 bits
-pub Small : List ℕ → Type 0
-Small l = (i : ℕ) → get_or l i 0 < 65536
+module _ (p : Image) (s : Seen) (e₀ : ℕ) {pending : List Pending} {n : ℕ} where
+  -- ---- an entry that is gone into
+  module _ {e : ℕ} (h : Standing p s e₀ pending n (Down e)) {r : Entry} (is : r ≡ entered_of p s (12 - n) e) where
+    comes : Answers p s (12 - n) (eval_of p s (12 - n) e) r
+    comes = rw is (entered-answers p s (12 - n) e)
 
-pub small_at : (l : List ℕ) (i : ℕ) → Small l → get_or l i 0 < 65536
-unfolding Small
-small_at l i h = h i
-
-pub small-none : (n : ℕ) → Small (replicate n 0)
-unfolding Small
-small-none zero i = omega arith
-small-none (suc n) zero = omega arith
-small-none (suc n) (suc i) = small-none n i
-
-pub small-set : (l : List ℕ) (k x : ℕ) → x < 65536 → Small l → Small (set l k x)
-unfolding Small
-small-set [] k x b h i = h i
-small-set (y ∷ l) zero x b h zero = b
-small-set (y ∷ l) zero x b h (suc i) = h (suc i)
-small-set (y ∷ l) (suc k) x b h zero = h 0
-small-set (y ∷ l) (suc k) x b h (suc i) = small-set l k x b (λ j. h (suc j)) i
-
--- ---- the answer of an entry by the number of its operator, which stands at base + 16 * e
-module _ (p : Image) (s : Seen) (d e : ℕ) {base op : ℕ} (deep : d ≡ 0 → ⊥) (at : base ≡ exprs_at p) (is : op ≡ byte_at p (base + 16 * e)) where
-  eval-is : answer_of (operator_of op) p s e (λ x. eval_of p s (d - 1) x) ≡ eval_of p s d e
-  unfolding eval_of operator_at operator expr_at
-  eval-is = rw (is, at) (sym (ap (λ k. eval_of p s k e) (pred_of d deep)))
-    where
-      pred_of : (d : ℕ) → (d ≡ 0 → ⊥) → d ≡ suc (d - 1)
-      pred_of d n = omega (arith, n)
-
-  eval-past : 14 < op → Clash ≡ eval_of p s d e
-  unfolding answer_of
-  eval-past l = rw (no-operator op l) at eval-is
-
-  eval-leaf : op < 6 → leaf_answer p (base + 16 * e) op s ≡ eval_of p s d e
-  eval-leaf l = leaf-answers p s e _ at l ∙ eval-is
-
-  -- an operator with its first operand gone into
-  eval-operator : (x : Worked) → (op < 6 → ⊥) → op ≤ 14 → ended_of p s (d - 1) op (operand_b p e) x (eval_of p s (d - 1) (operand_a p e)) ≡ eval_of p s d e
-  unfolding answer_of join_of operator_of
-  eval-operator x l g = two (eqb op 6) refl ∙ eval-is
-    where
-      two : (t : Bool) → eqb op 6 ≡ t
-          → ended_of p s (d - 1) op (operand_b p e) x (eval_of p s (d - 1) (operand_a p e)) ≡ answer_of (operator_of op) p s e (λ z. eval_of p s (d - 1) z)
-      two true t = rw (eqb-true op 6 t) (ended-not p s (d - 1) (operand_b p e) x (eval_of p s (d - 1) (operand_a p e)))
-      two false t =
-          let b = a-binary op (omega (arith, l, eqb-false op 6 t)) g in
-          ended-first p s (d - 1) (operand_b p e) x (eval_of p s (d - 1) (operand_a p e)) op (eqb-false op 6 t) (omega arith) ∙ rw b.1 refl
-
--- ---- each turn of the loop
-module _ (p : Image) (s : Seen) (e₀ : ℕ) {ops seconds : List ℕ} {firsts : List Worked} {n left e : ℕ} {v : Worked} where
-  -- the entry has the value r
-  up : Standing p s e₀ ops seconds firsts n left true e v → (r : Worked) → (r ≡ eval_of p s left e) → Standing p s e₀ ops seconds firsts n left false e r
-  unfolding current when◌then◌else◌
-  up h r g = record {
-    operators = h.operators;
-    entries = h.entries;
-    values = h.values;
-    levels = h.levels;
-    answers = ap (λ (x : Worked). resumed p s n ops seconds firsts left x) (g) ∙ h.answers;
-  }
-
-  pub at-depth : Standing p s e₀ ops seconds firsts n left true e v → left ≡ 0 → Standing p s e₀ ops seconds firsts n left false e Clash
-  unfolding eval_of
-  at-depth h z = up h Clash (rw z refl)
-
-  module _ {base op : ℕ} (at : base ≡ exprs_at p) (deep : left ≡ 0 → ⊥) (is : op ≡ byte_at p (base + 16 * e)) where
-    pub at_none : Standing p s e₀ ops seconds firsts n left true e v → 14 < op → Standing p s e₀ ops seconds firsts n left false e Clash
-    at_none h l = up h Clash (eval-past p s left e deep at is l)
-
-    pub at_leaf : Standing p s e₀ ops seconds firsts n left true e v → op < 6 → (r : Worked) → (r ≡ leaf_answer p (base + 16 * e) op s)
-        → Standing p s e₀ ops seconds firsts n left false e r
-    at_leaf h l r g = up h r (g ∙ eval-leaf p s left e deep at is l)
-
-    pub at-operator : Standing p s e₀ ops seconds firsts n left true e v → (op < 6 → ⊥) → op ≤ 14 → (a b : ℕ) → a ≡ le16 p (base + 16 * e + 2) → b ≡ le16 p (base + 16 * e + 4)
-        → Standing p s e₀ (set ops n op) (set seconds n b) firsts (n + 1) (left - 1) true a v
-    unfolding current when◌then◌else◌
-    at-operator h l g a b ea eb = record {
-      operators = length-set ops n op ∙ h.operators;
-      entries = length-set seconds n b ∙ h.entries;
-      values = h.values;
-      levels = omega (arith, h.levels, deep);
-      answers =
-          ap (λ (k : ℕ). resumed p s k (set ops n op) (set seconds n b) firsts (left - 1) (eval_of p s (left - 1) a)) (add-one n)
-          ∙ pushed p s ops seconds firsts n (left - 1) op b (eval_of p s (left - 1) a) (omega (arith, h.levels, h.operators, deep)) (omega (arith, h.levels, h.entries, deep))
-          ∙ ap (λ (k : ℕ). resumed p s n ops seconds firsts k (ended_of p s (left - 1) op b (get_or firsts n Clash) (eval_of p s (left - 1) a))) above
-          ∙ ap (λ (x : Worked). resumed p s n ops seconds firsts left x) (same)
-          ∙ h.answers;
-    }
-      where
-        above : suc (left - 1) ≡ left
-        above = omega (arith, deep)
-
-        same : ended_of p s (left - 1) op b (get_or firsts n Clash) (eval_of p s (left - 1) a) ≡ eval_of p s left e
-        same = rw (is-a p e at ea, is_b p e at eb) (eval-operator p s left e deep at is (get_or firsts n Clash) l g)
-
-  -- nothing is pending
-  pub at-end : Standing p s e₀ ops seconds firsts n left false e v → n ≡ 0 → v ≡ value_of p s e₀
-  unfolding current when◌then◌else◌ resumed
-  at-end h z = rw z at h.answers
-
-  module _ (h : Standing p s e₀ ops seconds firsts n left false e v) (some : n ≡ 0 → ⊥) where
-    on-top : resumed p s (suc (n - 1)) ops seconds firsts left v ≡ value_of p s e₀
-    unfolding current when◌then◌else◌
-    on-top = ap (λ (k : ℕ). resumed p s k ops seconds firsts left v) (top-is n some) ∙ h.answers
-      where
-        top-is : (n : ℕ) → (n ≡ 0 → ⊥) → suc (n - 1) ≡ n
-        top-is n g = omega (arith, g)
-
-    down-one : (r : Worked) → (resumed p s (n - 1) ops seconds firsts (suc left) r ≡ value_of p s e₀) → Standing p s e₀ ops seconds firsts (n - 1) (left + 1) false e r
-    unfolding current when◌then◌else◌
-    down-one r g = record {
-      operators = h.operators;
-      entries = h.entries;
-      values = h.values;
-      levels = omega (arith, h.levels, some);
-      answers = rw (add-one left) (g);
-    }
-
-    pub ends-not : get_or ops (n - 1) 0 ≡ 6 → (r : Worked) → r ≡ not_of v → Standing p s e₀ ops seconds firsts (n - 1) (left + 1) false e r
-    ends-not o r er = down-one r (rw er (sym (popped-not p s ops seconds firsts (n - 1) left v o) ∙ on-top))
-
-    pub ends-second : 16 ≤ get_or ops (n - 1) 0 → (r : Worked) → r ≡ join_of (operator_of (get_or ops (n - 1) 0 - 16)) (get_or firsts (n - 1) Clash) v
-        → Standing p s e₀ ops seconds firsts (n - 1) (left + 1) false e r
-    ends-second o r er = down-one r (rw er (sym (popped p s ops seconds firsts (n - 1) left v o) ∙ on-top))
-
-    pub ends-first : (get_or ops (n - 1) 0 ≡ 6 → ⊥) → get_or ops (n - 1) 0 < 16
-        → Standing p s e₀ (set ops (n - 1) (get_or ops (n - 1) 0 + 16)) seconds (set firsts (n - 1) v) n left true (get_or seconds (n - 1) 0) v
-    unfolding current when◌then◌else◌
-    ends-first o l = record {
-      operators = length-set ops (n - 1) (get_or ops (n - 1) 0 + 16) ∙ h.operators;
-      entries = h.entries;
-      values = length-set firsts (n - 1) v ∙ h.values;
+    pub at-value : {v : Worked} → r ≡ Value v → Standing p s e₀ pending n (Up v)
+    unfolding current
+    at-value {v} g = record {
+      places = h.places;
       levels = h.levels;
-      answers =
-          ap (λ (k : ℕ). resumed p s k (set ops (n - 1) (get_or ops (n - 1) 0 + 16)) seconds (set firsts (n - 1) v) left (eval_of p s left (get_or seconds (n - 1) 0))) (is-top n some)
-          ∙ sym (turned p s ops seconds firsts (n - 1) left v (omega (arith, h.levels, h.operators, some)) (omega (arith, h.levels, h.values, some)) o l)
-          ∙ on-top;
+      answers = ap (λ (x : Worked). resumed p s n pending (12 - n) x) (rw g at comes) ∙ h.answers;
     }
-      where
-        is-top : (n : ℕ) → (n ≡ 0 → ⊥) → n ≡ suc (n - 1)
-        is-top n g = omega (arith, g)
+
+    module _ {w : Pending} {a : ℕ} (g : r ≡ Operand w a) where
+      waits : (0 < 12 - n) × (ended_of p s (12 - n - 1) w (eval_of p s (12 - n - 1) a) ≡ eval_of p s (12 - n) e)
+      waits = rw g at comes
+
+      pub below : n < 12
+      below = omega (arith, waits.0)
+
+      above : suc (12 - (n + 1)) ≡ 12 - n
+      above = omega (arith, below)
+
+      same : 12 - n - 1 ≡ 12 - (n + 1)
+      same = omega (arith, below)
+
+      pub at-operand : Standing p s e₀ (set pending n w) (n + 1) (Down a)
+      unfolding current
+      at-operand = record {
+        places = length-set pending n w ∙ h.places;
+        levels = omega (arith, below);
+        answers =
+            ap (λ (k : ℕ). resumed p s k (set pending n w) (12 - (n + 1)) (eval_of p s (12 - (n + 1)) a)) (add-one n)
+            ∙ pushed p s pending n (12 - (n + 1)) w (eval_of p s (12 - (n + 1)) a) (omega (arith, h.places, below))
+            ∙ ap (λ (k : ℕ). resumed p s n pending k (ended_of p s (12 - (n + 1)) w (eval_of p s (12 - (n + 1)) a))) above
+            ∙ ap (λ (x : Worked). resumed p s n pending (12 - n) x) (rw same at waits.1)
+            ∙ h.answers;
+      }
+
+      pub operand-less : current_turns (12 - (n + 1)) (Down a) + pending_turns (n + 1) (set pending n w) (12 - (n + 1)) < current_turns (12 - n) (Down e) + pending_turns n pending (12 - n)
+      unfolding current_turns turns_of
+      operand-less =
+          rw (← above)
+          (rw (ap (λ (k : ℕ). pending_turns k (set pending n w) (12 - (n + 1))) (add-one n), push-turns pending n (12 - (n + 1)) w (omega (arith, h.places, below)))
+          (omega (arith, end-turns (12 - (n + 1)) w)))
+
+  -- ---- a value that goes up
+  module _ {v : Worked} (h : Standing p s e₀ pending n (Up v)) where
+    -- nothing is pending
+    pub at-end : n ≡ 0 → v ≡ value_of p s e₀
+    unfolding current resumed
+    at-end z = rw z at h.answers
+
+    module _ (some : n ≡ 0 → ⊥) where
+      top-is : (n : ℕ) → (n ≡ 0 → ⊥) → suc (n - 1) ≡ n
+      top-is n g = omega (arith, g)
+
+      above-top : suc (12 - n) ≡ 12 - (n - 1)
+      above-top = omega (arith, some, h.levels)
+
+      module _ {w : Pending} (top : get_or pending (n - 1) Not ≡ w) where
+        on-top : resumed p s (n - 1) pending (suc (12 - n)) (ended_of p s (12 - n) w v) ≡ value_of p s e₀
+        unfolding current resumed
+        on-top = rw (← top) (ap (λ (k : ℕ). resumed p s k pending (12 - n) v) (top-is n some) ∙ h.answers)
+
+        -- the last operator ends
+        pub at-ended : {r : Worked} → r ≡ ended_of p s (12 - n) w v → Standing p s e₀ pending (n - 1) (Up r)
+        unfolding current
+        at-ended {r} g = record {
+          places = h.places;
+          levels = omega (arith, h.levels);
+          answers = rw (g, ← above-top) on-top;
+        }
+
+        -- or waits for its second operand
+        pub at-first : {op b : ℕ} → w ≡ First op b → Standing p s e₀ (set pending (n - 1) (Second op v)) n (Down b)
+        unfolding current ended_of
+        at-first {op} {b} g = record {
+          places = length-set pending (n - 1) (Second op v) ∙ h.places;
+          levels = h.levels;
+          answers =
+              sym (ap (λ (k : ℕ). resumed p s k (set pending (n - 1) (Second op v)) (12 - n) (eval_of p s (12 - n) b)) (top-is n some))
+              ∙ pushed p s pending (n - 1) (12 - n) (Second op v) (eval_of p s (12 - n) b) (omega (arith, h.places, h.levels, some))
+              ∙ (rw g at on-top);
+        }
+
+      pub ended-less : (r : Worked) → current_turns (12 - (n - 1)) (Up r) + pending_turns (n - 1) pending (12 - (n - 1)) < current_turns (12 - n) (Up v) + pending_turns n pending (12 - n)
+      unfolding current_turns pending_turns
+      ended-less r =
+          rw (← above-top, sym (ap (λ (k : ℕ). pending_turns k pending (12 - n)) (top-is n some)))
+          (omega (arith, end-turns (12 - n) (get_or pending (n - 1) Not)))
+
+      pub first-less : {op b : ℕ} → get_or pending (n - 1) Not ≡ First op b
+          → current_turns (12 - n) (Down b) + pending_turns n (set pending (n - 1) (Second op v)) (12 - n) < current_turns (12 - n) (Up v) + pending_turns n pending (12 - n)
+      unfolding current_turns pending_turns turns_to_end
+      first-less {op} {b} g =
+          rw (sym (ap (λ (k : ℕ). pending_turns k pending (12 - n)) (top-is n some)), sym (ap (λ (k : ℕ). pending_turns k (set pending (n - 1) (Second op v)) (12 - n)) (top-is n some)))
+          (rw (push-turns pending (n - 1) (12 - n) (Second op v) (omega (arith, h.places, h.levels, some)), g) (omega arith))
+
+-- a value goes up, in place of its entry
+pub value-less : (left e k : ℕ) (v : Worked) → current_turns left (Up v) + k < current_turns left (Down e) + k
+unfolding current_turns
+value-less left e k v = omega (arith, some-turns left)

@@ -1,43 +1,64 @@
--- What a value makes of the operators that are pending: the last one first, each with its second operand's entry or its first operand's value.
-use Rattle.std.specs.Prelude.{ℕ, zero, suc, ◌+◌, ◌-◌, Bool, List, get_or, eqb, ltb}
+-- What a value makes of the operators that are pending, the last one first.
+use Rattle.std.specs.Prelude.{ℕ, zero, suc, ◌+◌, List, get_or}
 use Rattle.plexil.specs.declared.Worked.{Worked}
 use Rattle.plexil.specs.declared.Worked.TheVariants.{Clash}
-use Rattle.plexil.specs.Lists.{when◌then◌else◌}
-use Rattle.plexil.specs.Image.{Image}
+use Rattle.plexil.specs.Image.{Image, operator, operand_a, operand_b}
 use Rattle.plexil.specs.Values.{not_of}
 use Rattle.plexil.specs.Places.{Seen}
-use Rattle.plexil.specs.Expressions.{operator_of, eval_of}
+use Rattle.plexil.specs.Expressions.{Operator, leaf, not_op, binary, no_operator, operator_of, operator_at, leaf_of, eval_of}
 use Rattle.evaluate.specs.Binary.{join_of}
+use Rattle.evaluate.specs.declared.entries.Pending.{Pending}
+use Rattle.evaluate.specs.declared.entries.Pending.TheVariants.{Not, First, Second}
+use Rattle.evaluate.specs.declared.entries.Entry.{Entry}
+use Rattle.evaluate.specs.declared.entries.Entry.TheVariants.{Value, Operand}
+use Rattle.evaluate.specs.declared.entries.Turn.{Turn}
+use Rattle.evaluate.specs.declared.entries.Turn.TheVariants.{Down, Up}
 
--- operator op whose operand has the value v: NOT; one of two operands, of which v is the first, entry b the second; or 16 more, where x is the first and v the second
-unfoldable pub ended_of : Image → Seen → ℕ → ℕ → ℕ → Worked → Worked → Worked
-ended_of p s left op b x v =
-    when eqb op 6 then not_of v else (when ltb op 16 then join_of (operator_of op) v (eval_of p s left b) else join_of (operator_of (op - 16)) x v)
+-- what entry e comes to, by its operator
+unfoldable pub entered_by : Operator → Image → Seen → ℕ → Entry
+entered_by (leaf o) p s e = Value (leaf_of o p s e)
+entered_by not_op p s e = Operand Not (operand_a p e)
+entered_by (binary o) p s e = Operand (First (operator p e) (operand_b p e)) (operand_a p e)
+entered_by no_operator p s e = Value Clash
 
--- n operators are pending, and their operands have `left` levels to go
-unfoldable pub resumed : Image → Seen → ℕ → List ℕ → List ℕ → List Worked → ℕ → Worked → Worked
-resumed p s zero ops seconds firsts left v = v
-resumed p s (suc n) ops seconds firsts left v =
-    resumed p s n ops seconds firsts (suc left) (ended_of p s left (get_or ops n 0) (get_or seconds n 0) (get_or firsts n Clash) v)
+-- with so many levels to go
+unfoldable pub entered_of : Image → Seen → ℕ → ℕ → Entry
+entered_of p s zero e = Value Clash
+entered_of p s (suc left) e = entered_by (operator_at p e) p s e
+
+-- what a pending operator answers, whose operand has the value v, and whose operands have `left` levels to go
+unfoldable pub ended_of : Image → Seen → ℕ → Pending → Worked → Worked
+ended_of p s left Not v = not_of v
+ended_of p s left (First op b) v = join_of (operator_of op) v (eval_of p s left b)
+ended_of p s left (Second op x) v = join_of (operator_of op) x v
+
+-- n operators are pending, and the last one's operands have `left` levels to go
+unfoldable pub resumed : Image → Seen → ℕ → List Pending → ℕ → Worked → Worked
+resumed p s zero pending left v = v
+resumed p s (suc n) pending left v = resumed p s n pending (suc left) (ended_of p s left (get_or pending n Not) v)
 
 -- the value that goes up, or the entry that is gone into
-unfoldable pub current : Image → Seen → Bool → ℕ → ℕ → Worked → Worked
-current p s down left e v = when down then eval_of p s left e else v
+unfoldable pub current : Image → Seen → ℕ → Turn → Worked
+current p s left (Up v) = v
+current p s left (Down e) = eval_of p s left e
 
 -- how many turns an entry with so many levels to go takes at most
 unfoldable pub turns_of : ℕ → ℕ
 turns_of zero = 1
-turns_of (suc d) = turns_of d + (turns_of d + 4)
+turns_of (suc left) = turns_of left + (turns_of left + 4)
 
 -- and a pending operator whose operands have `left` levels to go
-unfoldable pub turns_to_end : ℕ → ℕ → ℕ
-turns_to_end op left = when eqb op 6 then 1 else (when ltb op 16 then turns_of left + 2 else 1)
+unfoldable pub turns_to_end : ℕ → Pending → ℕ
+turns_to_end left Not = 1
+turns_to_end left (First op b) = turns_of left + 2
+turns_to_end left (Second op x) = 1
 
 -- and all that are pending
-unfoldable pub pending_turns : ℕ → List ℕ → ℕ → ℕ
-pending_turns zero ops left = 0
-pending_turns (suc n) ops left = turns_to_end (get_or ops n 0) left + pending_turns n ops (suc left)
+unfoldable pub pending_turns : ℕ → List Pending → ℕ → ℕ
+pending_turns zero pending left = 0
+pending_turns (suc n) pending left = turns_to_end left (get_or pending n Not) + pending_turns n pending (suc left)
 
 -- and the entry that is gone into, if one is
-unfoldable pub current_turns : Bool → ℕ → ℕ
-current_turns down left = when down then turns_of left else 0
+unfoldable pub current_turns : ℕ → Turn → ℕ
+current_turns left (Up v) = 0
+current_turns left (Down e) = turns_of left

@@ -6,6 +6,7 @@ ghost use Rattle.evaluate.specs.Binary.{join_of};
 use plexil::Worked;
 
 // "7 AND; 8 OR; 9 EQ; 10 LT; 11 LE; 12 ADD; 13 SUB; 14 MUL"
+#[tactic(auto, using(crate::proofs::Laws::join_none), unfolding(crate::specs::Binary::join_of, plexil::specs::Expressions::opened))]
 pub fn join(op: u8, x: Worked, y: Worked) -> Worked
     ensures { result ≡ join_of (operator_of op) x y }
 {

@@ -8,6 +8,7 @@ use super::entries::value_of;
 use plexil::{Condition, Seen, Worked};
 
 // "expression, or 65535 for default"
+#[tactic(auto, unfolding(plexil::specs::Lists::opened, plexil::specs::Image::default, crate::specs::Condition::condition_or))]
 pub fn condition(image: &[u8], seen: &Seen, i: u16, c: Condition, normal: bool) -> Worked
     ensures { result ≡ condition_or image.now (seen_lent seen.now) i c normal }
 {

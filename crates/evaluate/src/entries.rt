@@ -1,14 +1,17 @@
-// The evaluation of an expression entry without recursion: the operators that wait for an operand stand in arrays of twelve places.
-ghost use Rattle.std.specs.Prelude.{◌≡◌, ◌<◌};
+// The evaluation of an expression entry without recursion: the operators that wait for an operand stand in an array of twelve places, with their count (no heap, fixed memory).
+ghost use Rattle.std.specs.Prelude.{◌≡◌, ◌<◌, ◌-◌};
 ghost use Rattle.plexil.specs.Lent.{seen_lent};
+ghost use Rattle.plexil.specs.Image.{exprs_at};
 ghost use Rattle.plexil.specs.Expressions.{value_of};
 ghost use Rattle.evaluate.specs.Leaves.{leaf_answer};
+ghost use Rattle.evaluate.specs.Pending.{entered_of};
 
 use super::binary::join;
 use super::leaves::{cell_value, code_is, constant};
 use plexil::{Seen, Worked};
 
 // The answer of an entry without operands, whose record stands at `at`; any other number is no leaf.
+#[tactic(auto, using(crate::proofs::Laws::no_leaf), unfolding(crate::specs::Leaves::leaf_answer, plexil::specs::Places::opened))]
 pub fn leaf(image: &[u8], at: u32, op: u8, seen: &Seen) -> Worked
     requires { at < 4000000 }
     ensures { result ≡ leaf_answer image.now at op (seen_lent seen.now) }
@@ -26,65 +29,88 @@ pub fn leaf(image: &[u8], at: u32, op: u8, seen: &Seen) -> Worked
     }
 }
 
+// An operator that waits for an operand's value: NOT; one of two, by its number, with its second operand's entry; one with its first operand's value.
+#[derive(Clone, Copy)]
+pub enum Pending {
+    Not,
+    First(u8, u16),
+    Second(u8, Worked),
+}
+
+// What an entry comes to: its value, or an operator that waits for the value of another entry. Neither is a refusal.
+pub enum Entry {
+    Value(Worked),
+    Operand(Pending, u16),
+}
+
+// An entry that is gone into, or a value that goes up.
+#[derive(Clone, Copy)]
+pub enum Turn {
+    Down(u16),
+    Up(Worked),
+}
+
+// What entry e comes to, so deep in its expression; the expressions stand at `base`.
+#[tactic(auto, using(crate::proofs::PendingLaws::entered_deep, crate::proofs::PendingLaws::entered_leaf, crate::proofs::PendingLaws::entered_none, crate::proofs::PendingLaws::entered_not, crate::proofs::PendingLaws::entered_binary))]
+fn entered(image: &[u8], base: u32, seen: &Seen, e: u16, depth: usize) -> Entry
+    requires { base ≡ exprs_at image.now }
+    ensures { result ≡ entered_of image.now (seen_lent seen.now) (12 - depth) e }
+{
+    if depth >= 12 {
+        return Entry::Value(Worked::Clash);
+    }
+    let at = base + 16 * (e as u32);
+    let op = image::byte_at(image, at);
+    if op < 6 {
+        return Entry::Value(leaf(image, at, op, seen));
+    }
+    if op > 14 {
+        return Entry::Value(Worked::Clash);
+    }
+    let first = image::le16(image, at + 2);
+    if op == 6 {
+        return Entry::Operand(Pending::Not, first);
+    }
+    Entry::Operand(Pending::First(op, image::le16(image, at + 4)), first)
+}
+
 // "an expression tree is at most 12 deep": as many operators can be pending.
 pub fn value_of(image: &[u8], seen: &Seen, e: u16) -> Worked
     ensures { result ≡ value_of image.now (seen_lent seen.now) e }
 {
     let base = image::exprs_at(image);
-    let mut ops = [0u8; 12];
-    let mut seconds = [0u16; 12];
-    let mut firsts = [Worked::Clash; 12];
+    let mut pending = [Pending::Not; 12];
     let mut n: usize = 0;
-    let mut left: u8 = 12;
-    let mut down = true;
-    let mut e = e;
-    let mut v = Worked::Clash;
+    let mut turn = Turn::Down(e);
     loop {
-        if down {
-            let at = base + 16 * (e as u32);
-            let op = image::byte_at(image, at);
-            if left == 0 {
-                v = Worked::Clash;
-                down = false;
-                continue;
+        match turn {
+            Turn::Down(e) => match entered(image, base, seen, e, n) {
+                Entry::Value(v) => turn = Turn::Up(v),
+                Entry::Operand(operator, a) => {
+                    pending[n] = operator;
+                    n += 1;
+                    turn = Turn::Down(a);
+                }
+            },
+            Turn::Up(v) => {
+                if n == 0 {
+                    return v;
+                }
+                match pending[n - 1] {
+                    Pending::Not => {
+                        n -= 1;
+                        turn = Turn::Up(values::not_of(v));
+                    }
+                    Pending::First(op, b) => {
+                        pending[n - 1] = Pending::Second(op, v);
+                        turn = Turn::Down(b);
+                    }
+                    Pending::Second(op, x) => {
+                        n -= 1;
+                        turn = Turn::Up(join(op, x, v));
+                    }
+                }
             }
-            if op > 14 {
-                v = Worked::Clash;
-                down = false;
-                continue;
-            }
-            if op < 6 {
-                v = leaf(image, at, op, seen);
-                down = false;
-                continue;
-            }
-            ops[n] = op;
-            seconds[n] = image::le16(image, at + 4);
-            e = image::le16(image, at + 2);
-            n += 1;
-            left -= 1;
-            continue;
         }
-        if n == 0 {
-            return v;
-        }
-        let top = n - 1;
-        let op = ops[top];
-        if op == 6 {
-            v = values::not_of(v);
-            n = top;
-            left += 1;
-            continue;
-        }
-        if op < 16 {
-            firsts[top] = v;
-            ops[top] = op + 16;
-            e = seconds[top];
-            down = true;
-            continue;
-        }
-        v = join(op - 16, firsts[top], v);
-        n = top;
-        left += 1;
     }
 }

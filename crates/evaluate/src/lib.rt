@@ -1,5 +1,6 @@
 // "Values and expressions": what an expression entry answers in a state, and what a node's condition answers with its default.
-#![tactic(auto)]
+// leaf and join match numbers: what may not change, both answer for any byte, and image's public functions answer bytes.
+#![tactic(auto, unfolding(plexil::specs::Lists::opened))]
 
 mod binary;
 mod conditions;
