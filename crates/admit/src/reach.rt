@@ -88,17 +88,15 @@ impl<'a> Reach<'a> {
     }
 }
 
-// What every entry asks.
-fn all_owners(image: &[u8]) -> [u16; 2048]
+// What every entry asks, into a table that is lent: handed out it would stand on the stack twice.
+fn all_owners(image: &[u8], owners: &mut [u16; 2048])
     requires { Ordered image.now }
-    ensures { Owned image.now (expr_count image.now) result }
+    ensures { Owned image.now (expr_count image.now) owners.new }
 {
-    let mut owners = [0u16; 2048];
     for e in 0..image::expr_count(image) {
-        let o = asked(image, &owners, e);
+        let o = asked(image, owners, e);
         owners[e as usize] = o;
     }
-    owners
 }
 
 // "12 Reach: a node reads or assigns a variable whose owner is neither it nor above it"
@@ -106,7 +104,8 @@ pub(crate) fn broken_reach(image: &[u8]) -> Option<u16>
     requires { Ordered image.now }
     ensures { found_of result ≡ lowest_broken rule.Reach image.now }
 {
-    let owners = all_owners(image);
+    let mut owners = [0u16; 2048];
+    all_owners(image, &mut owners);
     let reach = Reach {
         image,
         owners: &owners,

@@ -20,8 +20,8 @@ pub use enter::entered;
 use plexil::{Card, RunAnswer, State};
 use shape::{event_serial, good_shape};
 
-pub fn event_answer(image: &[u8], state: State, card: Card, event: &[u8]) -> Result<(), RunAnswer>
-    ensures { tested_of result ≡ event_answer image.now state card event.now }
+pub fn event_answer(image: &[u8], state: &State, card: Card, event: &[u8]) -> Result<(), RunAnswer>
+    ensures { tested_of result ≡ event_answer image.now state.now card event.now }
 {
     if card.phase != 1 {
         return Err(RunAnswer::Busy);
@@ -32,5 +32,5 @@ pub fn event_answer(image: &[u8], state: State, card: Card, event: &[u8]) -> Res
     if event_serial(event) != card.serial {
         return Err(RunAnswer::Turn);
     }
-    entries_answer(image, &state, event)
+    entries_answer(image, state, event)
 }

@@ -15,16 +15,20 @@ use plexil::{State, all_below};
 pub use statuses::is_awaiting;
 use unused::unused_empty;
 
-pub fn good_state(image: &[u8], state: State) -> bool
-    ensures { result ≡ good_state image.now state }
+pub fn good_state(image: &[u8], state: &State) -> bool
+    ensures { result ≡ good_state image.now state.now }
 {
-    let s = &state;
-    all_below(image::node_count(image), |i| good_place(image, s, i))
+    all_below(image::node_count(image), |i| good_place(image, state, i))
         && all_below(image::var_count(image), |v| {
-            has_kind(image::var_kind(image, v), &s.vartags, &s.varbits, v)
+            has_kind(image::var_kind(image, v), &state.vartags, &state.varbits, v)
         })
         && all_below(image::look_count(image), |l| {
-            has_kind(image::look_kind(image, l), &s.looktags, &s.lookbits, l)
+            has_kind(
+                image::look_kind(image, l),
+                &state.looktags,
+                &state.lookbits,
+                l,
+            )
         })
-        && unused_empty(image, s)
+        && unused_empty(image, state)
 }

@@ -17,9 +17,9 @@ fn good_card(image: &[u8], state: &State, card: Card) -> bool
     }
 }
 
-pub fn good_kept(image: &[u8], state: State, card: Card) -> bool
+pub fn good_kept(image: &[u8], state: &State, card: Card) -> bool
     requires { IsAdmitted image.now }
-    ensures { result ≡ good_kept image.now state card }
+    ensures { result ≡ good_kept image.now state.now card }
 {
-    form::good_state(image, state) && good_card(image, &state, card)
+    form::good_state(image, state) && good_card(image, state, card)
 }

@@ -16,7 +16,7 @@ pub fn turn(
 ) -> Ran
     ensures { TurnPermits image.now state card event.now budget list.old start result list.new }
 {
-    if let Err(a) = turn_test(image, state, card, event, list.len(), start) {
+    if let Err(a) = turn_test(image, &state, card, event, list.len(), start) {
         return refused(a, start, state, card);
     }
     let told = events::entered(image, state, event);

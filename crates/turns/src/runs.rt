@@ -79,7 +79,7 @@ pub fn run(
 ) -> Ran
     ensures { RunPermits image.now state card budget list.old start result list.new }
 {
-    if let Err(a) = run_test(image, state, card, list.len(), start) {
+    if let Err(a) = run_test(image, &state, card, list.len(), start) {
         return refused(a, start, state, card);
     }
     run_steps(image, state, card, budget, list, start)

@@ -12,13 +12,13 @@ use plexil::{Card, RunAnswer, State, Verdict};
 // An admitted plan: 30, then 31. The end is the list's.
 fn test_admitted(
     image: &[u8],
-    state: State,
+    state: &State,
     card: Card,
     end: usize,
     start: usize,
 ) -> Result<(), RunAnswer>
     requires { IsAdmitted image.now }
-    ensures { tested_of result ≡ run_test Admitted image.now state card end start }
+    ensures { tested_of result ≡ run_test Admitted image.now state.now card end start }
 {
     if !good_kept(image, state, card) {
         return Err(RunAnswer::State);
@@ -32,12 +32,12 @@ fn test_admitted(
 // "Every call checks its image first, then 30 .., then 31"
 pub(crate) fn run_test(
     image: &[u8],
-    state: State,
+    state: &State,
     card: Card,
     end: usize,
     start: usize,
 ) -> Result<(), RunAnswer>
-    ensures { tested_of result ≡ run_test (verdict image.now) image.now state card end start }
+    ensures { tested_of result ≡ run_test (verdict image.now) image.now state.now card end start }
 {
     match admit::check(image).verdict {
         Verdict::Admitted => test_admitted(image, state, card, end, start),
@@ -50,13 +50,13 @@ pub(crate) fn run_test(
 #[inline(never)]
 pub(crate) fn turn_test(
     image: &[u8],
-    state: State,
+    state: &State,
     card: Card,
     event: &[u8],
     end: usize,
     start: usize,
 ) -> Result<(), RunAnswer>
-    ensures { tested_of result ≡ turn_test (verdict image.now) image.now state card event.now end start }
+    ensures { tested_of result ≡ turn_test (verdict image.now) image.now state.now card event.now end start }
 {
     run_test(image, state, card, end, start)?;
     events::event_answer(image, state, card, event)
