@@ -1,8 +1,9 @@
 -- Operators by their numbers.
 use Prim.Native.Nat.{ℕ, zero, suc, ◌-◌, ◌≤◌, ◌<◌}
 use mathlib.Core.Bool.{Bool, true, false, false≢true}
-use lib.Dec.{leb}
-use borrow.Author.Tests.{leb-true}
+use lib.Dec.{leb, ltb}
+use borrow.Author.Tests.{leb-true, ltb-true, ltb-false}
+use Rattle.std.proofs.lemmas.List.{get_or_past}
 use Rattle.plexil.specs.Lists.{all_in}
 use mathlib.Core.Path.{◌≡◌, refl, ◌∙◌, ap}
 use mathlib.Core.List.{List, [], ◌∷◌}
@@ -14,7 +15,7 @@ use Rattle.notation.specs.Hearing.{strength, made}
 use Rattle.notation.specs.Mapping.{binary_code, kind_of_binary}
 use Rattle.build.specs.Flow.{of_operator}
 use Rattle.build.specs.Operators as Operators
-use Rattle.build.specs.Operators.{binary_of, first_of, also_not}
+use Rattle.build.specs.Operators.{binary_of, first_of, also_not, Binds}
 
 pub operator-range : (o : Operator) → (80 ≤ of_operator o) × (of_operator o ≤ 90)
 unfolding of_operator
@@ -77,6 +78,18 @@ all_most (x ∷ l) i h = go (leb x 6) refl i (all_most l)
 pub strength-most : (i : ℕ) → get_or (1 ∷ 2 ∷ 4 ∷ 4 ∷ 4 ∷ 4 ∷ 4 ∷ 4 ∷ 5 ∷ 5 ∷ 6 ∷ []) i 0 ≤ 6
 unfolding all_in
 strength-most i = all_most (1 ∷ 2 ∷ 4 ∷ 4 ∷ 4 ∷ 4 ∷ 4 ∷ 4 ∷ 5 ∷ 5 ∷ 6 ∷ []) i refl
+
+-- the strength of what is said stands in its row
+pub row-binds : (says r : ℕ) → (80 ≤ says → r ≡ get_or (1 ∷ 2 ∷ 4 ∷ 4 ∷ 4 ∷ 4 ∷ 4 ∷ 4 ∷ 5 ∷ 5 ∷ 6 ∷ []) (says - 80) 0) → (says < 80 → r ≡ 0) → Binds says r
+row-binds says r inside before = record {
+  tells = λ o e. inside (omega (arith, operator-range o)) ∙ strength-at says o e;
+  most = go (ltb says 80) refl;
+  none = λ h. inside (omega arith) ∙ get_or_past (1 ∷ 2 ∷ 4 ∷ 4 ∷ 4 ∷ 4 ∷ 4 ∷ 4 ∷ 5 ∷ 5 ∷ 6 ∷ []) (says - 80) 0 (omega arith);
+}
+  where
+    go : (b : Bool) → ltb says 80 ≡ b → r ≤ 6
+    go true e = omega (arith, before (ltb-true says 80 e))
+    go false e = rw (inside (omega (arith, ltb-false says 80 e))) (strength-most (says - 80))
 
 pub swapped : (o : Operator) (a b n : ℕ) → n ≡ of_operator o → 86 ≤ n → n ≤ 87 → b ≡ first_of o a b
 unfolding of_operator first_of

@@ -52,7 +52,8 @@ fn sections<'a>(names: Tables<'a>, base: usize, vbase: usize, lbase: usize, imag
     );
 }
 
-// The image, from the tables of the declarations and the counts.
+// The image, from the tables of the declarations and the counts. The limits are tested here too, though `read` refuses a text beyond them before (over_limits):
+// what may not change, since `build` asks nothing of its caller, and put_header and the places of the sections need them.
 pub fn build<'a>(names: Tables<'a>, seen: Recognised, image: &mut [u8; 41108])
     ensures { Builds names.entry.text.now seen names.entry.from.now names.entry.to.now names.entry.owner.now names.entry.told image.old image.new }
 {

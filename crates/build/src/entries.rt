@@ -4,9 +4,16 @@ ghost use Rattle.notation.specs.Mapping.{binary_code};
 ghost use Rattle.build.specs.Operators.{Tells, Binds, KindOf, Ends, binary_of, first_of};
 ghost use Rattle.build.specs.Steps.{Emits};
 
+use super::rows::row;
 use super::write::{BLANK, Entry, put_entry};
 
-// "6 NOT"
+// "0 constant; 1 variable a; 2 lookup a; 6 NOT a"
+pub const CONSTANT: u8 = 0;
+
+pub const VARIABLE: u8 = 1;
+
+pub const LOOKUP: u8 = 2;
+
 pub const NOT: u8 = 6;
 
 // One more entry, where there is room for it; how many there are.
@@ -40,26 +47,14 @@ const STRENGTHS: [u8; 11] = [1, 2, 4, 4, 4, 4, 4, 4, 5, 5, 6];
 fn operator(says: u8) -> u8
     ensures { Tells (λ o. binary_code (binary_of o)) says result }
 {
-    if says < 80 {
-        0
-    } else if says > 90 {
-        0
-    } else {
-        CODES[(says - 80) as usize]
-    }
+    row(&CODES, 80, says)
 }
 
 // How strongly what is said binds; what ends a group or an expression does not.
 pub fn strength(says: u8) -> u8
     ensures { Binds says result }
 {
-    if says < 80 {
-        0
-    } else if says > 90 {
-        0
-    } else {
-        STRENGTHS[(says - 80) as usize]
-    }
+    row(&STRENGTHS, 80, says)
 }
 
 // "`a > b` is `b < a`": the first operand.

@@ -3,7 +3,7 @@ ghost use Rattle.build.specs.Known.{tables_of};
 ghost use Rattle.build.specs.Steps.{Leaves};
 ghost use Rattle.build.specs.Named.{Asks, Variables, Lookups};
 
-use super::entries::{NOT, emit};
+use super::entries::{LOOKUP, NOT, VARIABLE, emit};
 use super::known::{Source, lookup, variable};
 use super::literals::literal;
 use super::paths::{ask_code, ask_not, ask_op, walk};
@@ -65,7 +65,7 @@ fn variable_entry<'a>(
 {
     let v = variable(source, node, at);
     let e = Entry {
-        op: 1,
+        op: VARIABLE,
         kind: (v.kind % 256) as u8,
         a: v.number,
         b: 0,
@@ -80,7 +80,7 @@ fn lookup_entry<'a>(source: Source<'a>, image: &mut [u8; 41108], at: Cursor, cou
 {
     let v = lookup(source, at);
     let e = Entry {
-        op: 2,
+        op: LOOKUP,
         kind: (v.kind % 256) as u8,
         a: v.number,
         b: 0,

@@ -1,8 +1,9 @@
 // Constants: their kinds, and their bits from the bytes of a token.
 ghost use Rattle.build.specs.Literals.{OfLeaf, WordAt, Adds, known_of, kind_of};
 
-use super::entries::emit;
+use super::entries::{CONSTANT, emit};
 use super::known::Source;
+use super::rows::row;
 use super::write::Entry;
 use recognise::Cursor;
 use words::{number_of, real_bits, signed, signed_bits};
@@ -13,13 +14,7 @@ const KINDS: [u8; 11] = [0, 0, 1, 1, 2, 2, 2, 2, 0, 1, 2];
 fn kind(says: u8) -> u8
     ensures { OfLeaf kind_of says result }
 {
-    if says < 31 {
-        return 0;
-    }
-    if says > 41 {
-        return 0;
-    }
-    KINDS[(says - 31) as usize]
+    row(&KINDS, 31, says)
 }
 
 fn known(says: u8) -> usize
@@ -58,7 +53,7 @@ pub fn literal<'a>(source: Source<'a>, image: &mut [u8; 41108], at: Cursor, n: u
     ensures { Adds source.entry.names.text.now source.entry.base n at image.old result image.new }
 {
     let e = Entry {
-        op: 0,
+        op: CONSTANT,
         kind: kind(at.says),
         a: 0,
         b: known(at.says),

@@ -8,7 +8,7 @@ use super::entries::last;
 use super::known::{Source, command, variable};
 use super::laying::add_node;
 use super::steps::next;
-use super::write::{NOTHING, Record};
+use super::write::{ASSIGNMENT, COMMAND, LIST, NOTHING, Record};
 use recognise::Cursor;
 
 // Where a reader of nodes stands, and how many nodes, entries and variables there are.
@@ -38,7 +38,7 @@ fn task<'a>(
         let what = command(source, at);
         let called = Record {
             parent,
-            form: 1,
+            form: COMMAND,
             priority: a.priority,
             given,
             what,
@@ -56,7 +56,7 @@ fn task<'a>(
     let e = expression(source, image, pending, node, at, a.entries);
     let assigned = Record {
         parent,
-        form: 2,
+        form: ASSIGNMENT,
         priority: a.priority,
         given,
         what: v.number,
@@ -92,7 +92,7 @@ pub fn node<'a>(
     }
     let listed = Record {
         parent,
-        form: 0,
+        form: LIST,
         priority: a.priority,
         given: &given,
         what: NOTHING,

@@ -4,6 +4,7 @@ ghost use Rattle.build.specs.Known.{tables_of, MeansFirst, MeansPart};
 ghost use Rattle.build.specs.Questions.{Walks, OfQuestion, op_of, code_in, not_in};
 
 use super::known::Source;
+use super::rows::row;
 use super::steps::next;
 use recognise::Cursor;
 
@@ -63,7 +64,7 @@ const OPS: [u8; 34] = [
     5, 5,
 ];
 
-const CODES: [usize; 34] = [
+const CODES: [u8; 34] = [
     0, 1, 2, 3, 4, 5, 6, 0, 1, 2, 3, 4, 5, 6, 0, 1, 2, 3, 0, 1, 2, 3, 0, 1, 2, 3, 4, 5, 0, 1, 2, 3,
     4, 5,
 ];
@@ -76,35 +77,17 @@ const NOTS: [u8; 34] = [
 pub fn ask_op(says: u8) -> u8
     ensures { OfQuestion op_of says result }
 {
-    if says < 45 {
-        return 0;
-    }
-    if says > 78 {
-        return 0;
-    }
-    OPS[(says - 45) as usize]
+    row(&OPS, 45, says)
 }
 
 pub fn ask_code(says: u8) -> usize
     ensures { OfQuestion code_in says result }
 {
-    if says < 45 {
-        return 0;
-    }
-    if says > 78 {
-        return 0;
-    }
-    CODES[(says - 45) as usize]
+    row(&CODES, 45, says) as usize
 }
 
 pub fn ask_not(says: u8) -> u8
     ensures { OfQuestion not_in says result }
 {
-    if says < 45 {
-        return 0;
-    }
-    if says > 78 {
-        return 0;
-    }
-    NOTS[(says - 45) as usize]
+    row(&NOTS, 45, says)
 }

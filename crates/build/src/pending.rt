@@ -183,16 +183,14 @@ fn unwind(
 ) -> Unwound
     ensures { Unwinds base pending.now top n k image.old result.top result.entries image.new }
 {
-    let mut t = top;
     let mut m = n;
-    while t > 0 {
+    for t in (1..=top).rev() {
         if is_held(pending, t, k) {
             return Unwound { top: t, entries: m };
         }
         m = end_at(image, base, pending, t, m);
-        t -= 1;
     }
-    Unwound { top: t, entries: m }
+    Unwound { top: 0, entries: m }
 }
 
 // After an operand: what is said next ends the operators that it ends, and parentheses close, at most `left`.

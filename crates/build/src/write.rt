@@ -90,6 +90,13 @@ fn words(image: &mut [u8; 41108], at: usize, ws: &[usize])
 // What the image has where there is no parent, no condition or no entry: the definitions have the number (notation, Hearing.antt: no_conditions, parent_in).
 pub const NOTHING: usize = 65535;
 
+// The forms of nodes
+pub const LIST: u8 = 0;
+
+pub const COMMAND: u8 = 1;
+
+pub const ASSIGNMENT: u8 = 2;
+
 // A node's record: its parent, form and priority, the entries of its conditions, and what it does, to which value.
 #[derive(Clone, Copy)]
 pub struct Record<'a> {

@@ -1,7 +1,6 @@
 -- The walk up from a node: one law for variables and for nodes.
 use Prim.Native.Nat.{ℕ, zero, suc, ◌<◌, ◌-◌}
 use mathlib.Core.Path.{◌≡◌, refl, ap, sym, ◌∙◌}
-use mathlib.Core.Logic.{◌⊎◌, inl, inr}
 use mathlib.Core.Bool.{true, false}
 use native.Mathlib.Omega.{arith}
 use Rattle.plexil.specs.Lists.{Found, at, nowhere}
@@ -12,12 +11,7 @@ use Rattle.notation.specs.Names.{own_variable, variable_up, node_at, node_up}
 use Rattle.std.specs.Prelude.{Option, unwrap_or, is_some, Some, None, IfOk}
 use Rattle.std.specs.Option.{ok_or}
 use Rattle.names.specs.Answers.{found_of}
-
--- f at node n, else at its parent, and so on up, at most k nodes
-unfoldable pub go_up : (ℕ → Found) → (ℕ → ℕ) → ℕ → ℕ → Found
-go_up f p zero n = nowhere
-go_up f p (suc k) zero = f 0
-go_up f p (suc k) (suc n) = elim (f (suc n)) [ at v ↦ at v | nowhere ↦ go_up f p k (p (suc n)) ]
+use Rattle.names.specs.Climb.{go_up}
 
 pub variable-up : (d : Draft) (x : Token) (k n : ℕ) → variable_up d k n x ≡ go_up (λ i. own_variable d i x) (parent_in d.nodes) k n
 unfolding variable_up go_up
@@ -68,12 +62,20 @@ module _ (f : ℕ → Found) (p : ℕ → ℕ) where
       onto (at v) e = refl
       onto nowhere e = absurd (let z : ◌≡◌ {A = ℕ} 0 1 = cc in omega arith)
 
-  pub up-over : (k n : ℕ) → is_some (found_of (f n)) ≡ false → (n ≡ 0) ⊎ (k ≡ 0) → go_up f p (suc k) n ≡ nowhere
+  pub up-root : (k n : ℕ) → n ≡ 0 → go_up f p (suc k) n ≡ f n
   unfolding go_up
-  up-over k zero e h = found-is (f 0) e
-  up-over k (suc n) e (inl h) = absurd (omega arith)
-  up-over zero (suc n) e (inr h) = else-on (f (suc n)) nowhere (found-is (f (suc n)) e)
-  up-over (suc k) (suc n) e (inr h) = absurd (omega arith)
+  up-root k zero e = refl
+  up-root k (suc n) e = absurd (omega arith)
+
+  pub up-last : (k n : ℕ) → k ≡ 0 → go_up f p (suc k) n ≡ f n
+  unfolding go_up
+  up-last zero zero e = refl
+  up-last zero (suc n) e = alone (f (suc n))
+    where
+      alone : (g : Found) → ◌≡◌ {A = Found} (elim g [ at v ↦ at v | nowhere ↦ nowhere ]) g
+      alone (at v) = refl
+      alone nowhere = refl
+  up-last (suc k) n e = absurd (omega arith)
 
   pub up-on : (k n r : ℕ) → is_some (found_of (f n)) ≡ false → (n ≡ 0 → ⊥) → (k ≡ 0 → ⊥) → ((i : ℕ) → n ≡ suc i → r ≡ p (suc i)) → go_up f p (suc k) n ≡ go_up f p (suc (k - 1)) r
   unfolding go_up

@@ -1,11 +1,11 @@
 -- What the code asks of a mention is whether it is in order.
 use Prim.Native.Nat.{ℕ, ◌<◌, ◌≤◌, ◌-◌}
 use mathlib.Core.Path.{◌≡◌, refl, ap, sym, ◌∙◌, subst}
-use mathlib.Core.Bool.{true}
+use mathlib.Core.Bool.{Bool, true, false}
 use mathlib.Core.List.{List, [], ◌∷◌, ◌++◌, append_assoc}
 use native.Mathlib.Omega.{arith}
-use borrow.Author.Tests.{ne_eqb}
-use lib.Dec.{eqb}
+use borrow.Author.Tests.{ne_eqb, ltb-true, ltb-false}
+use lib.Dec.{eqb, ltb}
 use lib.ListN.{length, get_or, length-append}
 use lib.Seq.{get_or-append_seam}
 use Rattle.plexil.specs.Lists.{Found, nowhere}
@@ -158,6 +158,13 @@ module _ (u : List ℕ) (l : List (Said Saying)) (a : Accepted u l) (w : Walk) (
   pub held-settle : w.role ≡ 13 → (tell x b).held ≡ []
   unfolding tell tell_of
   held-settle e = rw (is-settle heard (role-is 13 e)) (settled-held b.held b refl)
+
+  pub held-ended : 12 ≤ w.role → w.role ≤ 13 → (tell x b).held ≡ []
+  held-ended m n = go (ltb w.role 13) refl
+    where
+      go : (t : Bool) → ltb w.role 13 ≡ t → (tell x b).held ≡ []
+      go true e = held-ask (omega (arith, ltb-true w.role 13 e))
+      go false e = held-settle (omega (arith, ltb-false w.role 13 e))
 
   pub held_same : (w.role ≡ 10 → ⊥) → (w.role ≡ 11 → ⊥) → (w.role ≡ 12 → ⊥) → (w.role ≡ 13 → ⊥) → (tell x b).held ≡ b.held
   unfolding tell

@@ -5,6 +5,7 @@ pub mod View
 pub mod Seek
 pub mod Walking
 pub mod Answers
+pub mod Climb
 pub mod Tables
 pub mod Judging
 pub mod Kinds

@@ -33,19 +33,16 @@ pub struct Counts {
 
 impl Counts {
     // The number of what a saying of the role declares.
+    #[tactic(auto, unfolding(crate::specs::Judging::index_no))]
     fn index_of(self, role: u8, nodes: usize) -> usize
         ensures { result ≡ index_no role self.commands self.lookups self.variables nodes }
     {
-        if role == 0 {
-            return self.commands;
+        match role {
+            0 => self.commands,
+            1 => self.lookups,
+            2 => self.variables,
+            _ => here(nodes),
         }
-        if role == 1 {
-            return self.lookups;
-        }
-        if role == 2 {
-            return self.variables;
-        }
-        here(nodes)
     }
 
     // With what a saying of the role declares.

@@ -1,4 +1,5 @@
 // Each mention of a name is in order: a declaration is the first of its name, a use has its declaration (42).
+// The roles stay numbers: the definition role_number (Roles.antt) has them, and Walk's role, which Judged and PathGoes speak of (Judging.antt).
 ghost use Rattle.std.specs.Prelude.{◌≡◌, false, List, [], ◌<◌, ◌≤◌, length, unwrap_or};
 ghost use Rattle.plexil.specs.Lists.{at};
 ghost use Rattle.grammar.specs.Spelling.{Placed};
@@ -158,28 +159,15 @@ impl<'a> Tables<'a> {
         let a = w.from;
         let e = w.to;
         let n = here(w.nodes);
-        if role < 4 {
-            return unless(self.is_first(role, i, w.owner, &self.text[a..e]), a);
+        match role {
+            0..=3 => unless(self.is_first(role, i, w.owner, &self.text[a..e]), a),
+            7 => unless(self.command_of(&self.text[a..e]).is_some(), a),
+            8 => unless(self.variable_of(n, &self.text[a..e]).is_some(), a),
+            9 => unless(self.lookup_of(&self.text[a..e]).is_some(), a),
+            12 => self.ask(n, p),
+            13 => self.settle(n, p),
+            _ => None,
         }
-        if role == 7 {
-            let f = self.command_of(&self.text[a..e]);
-            return unless(f.is_some(), a);
-        }
-        if role == 8 {
-            let f = self.variable_of(n, &self.text[a..e]);
-            return unless(f.is_some(), a);
-        }
-        if role == 9 {
-            let f = self.lookup_of(&self.text[a..e]);
-            return unless(f.is_some(), a);
-        }
-        if role == 12 {
-            return self.ask(n, p);
-        }
-        if role == 13 {
-            return self.settle(n, p);
-        }
-        None
     }
 
     // The held name or path after a saying.
@@ -190,19 +178,11 @@ impl<'a> Tables<'a> {
         let role = w.role;
         let a = w.from;
         let e = w.to;
-        if role == 10 {
-            return held_from(Held::Name, a, e);
+        match role {
+            10 => held_from(Held::Name, a, e),
+            11 => self.path_next(self.path_first(here(w.nodes), p), a, e),
+            12 | 13 => held_from(Held::Nothing, 0, 0),
+            _ => p,
         }
-        if role == 11 {
-            let q = self.path_first(here(w.nodes), p);
-            return self.path_next(q, a, e);
-        }
-        if role == 12 {
-            return held_from(Held::Nothing, 0, 0);
-        }
-        if role == 13 {
-            return held_from(Held::Nothing, 0, 0);
-        }
-        p
     }
 }

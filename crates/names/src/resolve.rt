@@ -1,10 +1,12 @@
 // Which declaration a name means: up from the node that uses it, down a path.
-ghost use Rattle.std.specs.Prelude.{◌≡◌, List, suc, ◌<◌, unwrap_or};
+ghost use Rattle.std.specs.Prelude.{◌≡◌, ℕ, List, suc, ◌<◌, unwrap_or};
+ghost use Rattle.plexil.specs.Lists.{Found};
 ghost use Rattle.grammar.specs.Table.{Said};
 ghost use Rattle.notation.specs.Sayings.{Saying};
-ghost use Rattle.notation.specs.Hearing.{draft_of};
+ghost use Rattle.notation.specs.Hearing.{draft_of, parent_in};
 ghost use Rattle.notation.specs.Names.{command_of, lookup_of, variable_of, child_of, node_at, node_up};
 ghost use Rattle.names.specs.Answers.{Accepted, found_of, ParentOf};
+ghost use Rattle.names.specs.Climb.{Finds, go_up};
 ghost use Rattle.names.specs.Tables.{Prepared};
 
 use super::table::Tables;
@@ -43,26 +45,32 @@ impl<'a> Tables<'a> {
         e.owner - 1
     }
 
+    // Up from node n: what `own` answers of the node itself, or of the nearest node above of which it answers one.
+    fn climb<F: Fn(usize) -> Option<usize>>(self, n: usize, own: F) -> Option<usize>
+        requires here { F.pre own n }
+        requires above { (i : ℕ) → i < 18446744073709551615 → F.pre own i }
+        ensures climbed { (l : List (Said Saying)) → Accepted self.entry.text.now l → Prepared self.entry l → (f : ℕ → Found) → Finds (F.post own) f → result ≡ found_of (go_up f (parent_in (draft_of l).nodes) (suc n) n) }
+        ensures answered { (i : ℕ) × (i < 18446744073709551616) × F.post own i result }
+    {
+        let mut node = n;
+        for _ in 0..n {
+            let there = own(node);
+            if there.is_some() {
+                return there;
+            }
+            if node == 0 {
+                return there;
+            }
+            node = self.parent_of(node);
+        }
+        own(node)
+    }
+
     // "A variable is the one of the node itself or of the nearest node above that declares it"
     pub fn variable_of(self, n: usize, x: &[u8]) -> Option<usize>
         ensures { (l : List (Said Saying)) → Accepted self.entry.text.now l → Prepared self.entry l → result ≡ found_of (variable_of (draft_of l) n x.now) }
     {
-        let mut node = n;
-        let mut left = n;
-        loop {
-            let own = self.find(2, node, x);
-            if own.is_some() {
-                return own;
-            }
-            if node == 0 {
-                return None;
-            }
-            if left == 0 {
-                return None;
-            }
-            left -= 1;
-            node = self.parent_of(node);
-        }
+        self.climb(n, |i| self.find(2, i, x))
     }
 
     // Node n if it is named x, else its child.
@@ -84,21 +92,6 @@ impl<'a> Tables<'a> {
         requires { n < 18446744073709551615 }
         ensures { ((l : List (Said Saying)) → Accepted self.entry.text.now l → Prepared self.entry l → result ≡ found_of (node_up (draft_of l) (suc n) n x.now)) × (unwrap_or result 0 < 18446744073709551615) }
     {
-        let mut node = n;
-        let mut left = n;
-        loop {
-            let there = self.node_at(node, x);
-            if there.is_some() {
-                return there;
-            }
-            if node == 0 {
-                return None;
-            }
-            if left == 0 {
-                return None;
-            }
-            left -= 1;
-            node = self.parent_of(node);
-        }
+        self.climb(n, |i| self.node_at(i, x))
     }
 }

@@ -28,49 +28,41 @@ pub struct Tables<'a> {
     pub told: Told,
 }
 
+// Where a sort's rows begin, how many there can be and how many there are: the sorts are the definitions' numbers (Tables.antt: base_of, room_of, count_of).
+#[tactic(auto, unfolding(crate::specs::Tables::base_of))]
 pub fn base_of(sort: u8) -> usize
     ensures { result ≡ base_of sort }
 {
-    if sort == 0 {
-        return 0;
+    match sort {
+        0 => 0,
+        1 => 256,
+        2 => 320,
+        _ => 448,
     }
-    if sort == 1 {
-        return 256;
-    }
-    if sort == 2 {
-        return 320;
-    }
-    448
 }
 
+#[tactic(auto, unfolding(crate::specs::Tables::room_of))]
 pub fn room_of(sort: u8) -> usize
     ensures { result ≡ room_of sort }
 {
-    if sort == 0 {
-        return 256;
+    match sort {
+        0 => 256,
+        1 => 64,
+        2 => 128,
+        _ => 256,
     }
-    if sort == 1 {
-        return 64;
-    }
-    if sort == 2 {
-        return 128;
-    }
-    256
 }
 
+#[tactic(auto, unfolding(crate::specs::Tables::count_of))]
 pub fn count_of(told: Told, sort: u8) -> usize
     ensures { result ≡ count_of told sort }
 {
-    if sort == 0 {
-        return told.commands;
+    match sort {
+        0 => told.commands,
+        1 => told.lookups,
+        2 => told.variables,
+        _ => told.nodes,
     }
-    if sort == 1 {
-        return told.lookups;
-    }
-    if sort == 2 {
-        return told.variables;
-    }
-    told.nodes
 }
 
 impl<'a> Tables<'a> {

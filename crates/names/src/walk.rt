@@ -39,19 +39,15 @@ fn owner_at(lists: &[usize; 16], depth: usize) -> usize
 }
 
 // The owner of what a saying of the role declares.
+#[tactic(auto, unfolding(crate::specs::Walking::owner_no))]
 fn owner_of(lists: &[usize; 16], role: u8, nodes: usize, depth: usize) -> usize
     ensures { result ≡ owner_no lists.now role nodes depth }
 {
-    if role == 2 {
-        return here(nodes);
+    match role {
+        2 => here(nodes),
+        3 | 4 => owner_at(lists, depth),
+        _ => 0,
     }
-    if role == 3 {
-        return owner_at(lists, depth);
-    }
-    if role == 4 {
-        return owner_at(lists, depth);
-    }
-    0
 }
 
 // A list that opens is kept, where it is one of the outermost 16.
@@ -65,30 +61,27 @@ fn keep(lists: &mut [usize; 16], role: u8, nodes: usize, depth: usize)
     }
 }
 
+#[tactic(auto, unfolding(crate::specs::Walking::nodes_no))]
 fn nodes_after(role: u8, nodes: usize) -> usize
     requires { nodes < 18446744073709551615 }
     ensures { result ≡ nodes_no role nodes }
 {
-    if role == 3 {
-        return nodes + 1;
+    match role {
+        3 | 4 => nodes + 1,
+        _ => nodes,
     }
-    if role == 4 {
-        return nodes + 1;
-    }
-    nodes
 }
 
+#[tactic(auto, unfolding(crate::specs::Walking::depth_no))]
 fn depth_after(role: u8, depth: usize) -> usize
     requires { depth < 18446744073709551615 }
     ensures { result ≡ depth_no role depth }
 {
-    if role == 5 {
-        return depth + 1;
+    match role {
+        5 => depth + 1,
+        6 => here(depth),
+        _ => depth,
     }
-    if role == 6 {
-        return here(depth);
-    }
-    depth
 }
 
 // The end of the name: an unnamed node has the empty name.

@@ -1,4 +1,4 @@
-// The limits of a plan image (3), and how long it is (43).
+// The limits of a plan image (3), and how long it is (43). `build` tests them again: what may not change, it asks nothing of its caller.
 ghost use Rattle.std.specs.Prelude.{◌≡◌, true, not};
 ghost use Rattle.read.specs.Limits.{fits, length_of};
 

@@ -42,7 +42,7 @@ fn named<'a>(tables: Tables<'a>, seen: Recognised, room: usize) -> Result<usize,
 }
 
 // What refuses a text before its image is made, with so much room for it; else what was found. The tables of its declarations, and the
-// tape behind the owners, are lent.
+// tape behind the owners, are lent by three arguments: `Tables` borrows them only to read, once they are filled (no heap, fixed memory).
 pub(crate) fn survey(
     text: &[u8],
     room: usize,

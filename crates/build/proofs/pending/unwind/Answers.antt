@@ -1,5 +1,6 @@
 -- `build::pending::unwind` meets its contract. The invariant: the operators above place t have ended.
 use native.Mathlib.Omega.{arith}
+use mathlib.Core.Path.{◌≡◌}
 use Rattle.build.proofs.UnwindLaws.{top-few, ended_at, held_none}
 use Rattle.build.proofs.pending.unwind.Goals as goal
 
@@ -19,4 +20,6 @@ loop-t-preserved c u s node size q z f rest e x = let i = c.loop-t.invariant u s
     (y.0, omega (arith, y.1, i.1))
 
 pub returns : goal.returns
-returns c u s node size q z f rest e x = let i = c.loop-t.invariant u s node size q z f rest e x in (i.0, held_none _ _ _ (omega arith), i.1)
+returns c u s node size q z f rest e x = let i = c.loop-t.invariant u s node size q z f rest e x in
+    let over : c.loop-t.t ≡ 0 = omega (arith, c.loop-t-test.false) in
+    (rw over at i.0, held_none _ _ _ (omega arith), i.1)

@@ -12,6 +12,3 @@ use Rattle.build.proofs.pending.unwind.Given as goal
 abbrev pub invariant-loop-t : goal.invariant-loop-t
 invariant-loop-t l = (u : List ℕ) (s : Scene) (node size : ℕ) (c : Cursor) → length l.pending ≡ places → Fair s node l.base → s.whole.pending ≡ [] → Binds c.says l.k → PastBy u s l.base l.pending l.initial.t size c l.initial.m l.initial.image
     → PastBy u s l.base l.pending l.t size c l.m l.image × (l.initial.m ≤ l.m)
-
-abbrev pub decreases-loop-t : goal.decreases-loop-t
-decreases-loop-t l = l.t
