@@ -19,10 +19,7 @@ fn ended(answer: RunAnswer, phase: u32, steps: u16, next: usize, state: State, c
         steps,
         next,
         state,
-        card: Card {
-            serial: card.serial,
-            phase,
-        },
+        card: Card { phase, ..card },
     }
 }
 
