@@ -1,4 +1,6 @@
 // Rule 11: the kinds of conditions and values.
+// bool_condition and good_value begin as condition_in_scope and assignment_in_scope do: no plainer as one function, which needs a closure with its clause
+// to share one comparison.
 ghost use Rattle.std.specs.Prelude.{◌≡◌, [], ◌∷◌, eqb};
 ghost use Rattle.plexil.specs.declared.Rule.TheVariants as rule;
 ghost use Rattle.plexil.specs.Lists.{some};

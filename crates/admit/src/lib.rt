@@ -1,4 +1,6 @@
 // The check of a plan image: the lowest broken of the rules 1 to 12, with the lowest record that breaks it.
+// Node types, kinds, operators and 65535 are numbers: what may not change, image's public functions answer the fields, as the definitions of Scope do.
+// An image and a record's number are two parameters, as in the definitions: no plainer as a struct of the two, which each clause would name by its fields.
 #![tactic(auto, unfolding(plexil::specs::Lists::opened, plexil::specs::Check::opened, plexil::specs::Records::is_assignment, plexil::specs::Scope::given_pass, plexil::specs::Scope::if_assignment, plexil::specs::Scope::good_kinds, plexil::specs::Scope::good_reach, plexil::specs::Scope::in_scope, plexil::specs::Replies::checked_by, plexil::specs::Replies::check_reply))]
 
 mod depth;
@@ -15,6 +17,7 @@ ghost use Rattle.plexil.specs.ReplyPromises.{CheckPermits};
 pub use numbers::rule_number;
 use plexil::{Checked, Counts, Verdict};
 
+// counts and checked as a From: no plainer, Counts and Checked are types of plexil, which does not know an image's fields.
 fn counts(image: &[u8]) -> Counts
     ensures { result ≡ counts_of image.now }
 {

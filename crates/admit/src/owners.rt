@@ -51,6 +51,7 @@ fn both(image: &[u8], a: u16, b: u16) -> u16
     257
 }
 
+// The image and its table are two here, and no Reach: there the table is whole, here it is filled below e.
 // What entry e asks, by its operator: 1 a variable, below 6 another leaf, 6 NOT.
 pub(crate) fn asked<'a>(image: &'a [u8], owners: &'a [u16; 2048], e: u16) -> u16
     requires ordered { Ordered image.now }

@@ -1,4 +1,5 @@
 // A node's condition and an assigned value, read from the table; normal answers for the default.
+// condition of evaluate has value_of in the table's place: no plainer as one function, which needs a closure with its clause to share one comparison.
 ghost use Rattle.std.specs.Prelude.{◌≡◌, true, false, ◌<◌};
 ghost use Rattle.plexil.specs.declared.State.{State};
 ghost use Rattle.plexil.specs.Values.{says};

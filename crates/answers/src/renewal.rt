@@ -13,7 +13,7 @@ use super::entry::answer;
 use super::flags::is_touched;
 use plexil::{Cell, Seen};
 
-// An entry's cell, and whether it differs from the one before.
+// An entry's cell, and whether it differs from the one before. No plainer as an Option: there is a cell in both cases, and its flag is kept as a byte.
 #[derive(Clone, Copy)]
 pub struct Renewed {
     pub cell: Cell,

@@ -1,4 +1,4 @@
-// The table, filled in entry order.
+// The table, filled in entry order. No plainer as one with refresh: here no cell stands yet, and there are no flags that say what to keep.
 ghost use Rattle.std.specs.Prelude.{◌≡◌, length};
 ghost use Rattle.plexil.specs.declared.State.{State};
 ghost use Rattle.plexil.specs.Places.{seen};

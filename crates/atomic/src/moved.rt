@@ -83,6 +83,7 @@ fn gone(image: &[u8], before: &Before, i: u16, a: Status, e: Effect) -> Place
     }
 }
 
+// place_by and sent_by share the match of a move alone: what may not change, both are public, and the definitions have them apart.
 // "What a rule does not name stays"
 pub fn place_by(image: &[u8], before: &Before, i: u16, m: Move) -> Place
     ensures { result ≡ place_by image.now (state_lent before.now) i m }

@@ -1,4 +1,5 @@
 // "Node rules": one function a status. What a rule reads is lent.
+// finished and resting are two parameters: no plainer as a struct, since one rule reads the one and two rules the other, and each has a clause of its own.
 ghost use Rattle.std.specs.Prelude.{◌≡◌, not, ◌∷◌, []};
 ghost use Rattle.plexil.specs.declared.Status.TheVariants as status;
 ghost use Rattle.plexil.specs.declared.Condition.TheVariants as condition;

@@ -1,4 +1,5 @@
 // A node's condition in a state, where normal answers for the default.
+// condition of answers has a table in value_of's place: no plainer as one function, which needs a closure with its clause to share one comparison.
 ghost use Rattle.std.specs.Prelude.{◌≡◌, true, false};
 ghost use Rattle.plexil.specs.Values.{says};
 ghost use Rattle.plexil.specs.Lent.{seen_lent};

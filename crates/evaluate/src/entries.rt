@@ -50,6 +50,8 @@ pub enum Turn {
     Up(Worked),
 }
 
+// entered and answer of answers are two: no plainer as one, since answer has both operands' values in its table, this one answers before they are there.
+// `base` is worked out once for all entries: no plainer in a struct with the image, where each clause would name the two by their fields.
 // What entry e comes to, so deep in its expression; the expressions stand at `base`.
 #[tactic(auto, using(crate::proofs::PendingLaws::entered_deep, crate::proofs::PendingLaws::entered_leaf, crate::proofs::PendingLaws::entered_none, crate::proofs::PendingLaws::entered_not, crate::proofs::PendingLaws::entered_binary))]
 fn entered(image: &[u8], base: u32, seen: &Seen, e: u16, depth: usize) -> Entry

@@ -1,4 +1,6 @@
 // What a leaf answers. A place past an array's end holds 0.
+// The known flag b, kinds, codes and tags are numbers: what may not change, the definition leaf_answer reads them from a record of any bytes.
+// A state's codes, tags and bits are lent by C (C interface), tags and bits in two arrays.
 ghost use Rattle.std.specs.Prelude.{◌≡◌, eqb, get_or};
 ghost use Rattle.plexil.specs.Lists.{when◌then◌else◌};
 ghost use Rattle.plexil.specs.Values.{known, decode};

@@ -7,6 +7,7 @@ use super::shape::entry_count;
 use places::known_cell;
 use plexil::{Cell, State};
 
+// No plainer as one with with_mark: the two share the state that goes through, and no array or test.
 fn with_lookup(mut s: State, l: u16, c: Cell) -> State
     ensures { result ≡ with_lookup s l c }
 {

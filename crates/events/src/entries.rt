@@ -1,6 +1,7 @@
 // "form 8 (0 lookup value, 1 lookup Unknown, 2 command returned), spare 8, index 16, value 64": the fields of entry k.
 // The form stays a number, which is no plainer as an enum: names_same and not_awaited compare it, and an entry of no form is entered as a mark.
 // Entry k of an event is two parameters, as in the definitions: a struct of the two would stand in each clause by its fields.
+// Each field has a reader of its own, one line, since the definitions name each; entry_at has the 8 and the 12 of the definition entry_at.
 ghost use Rattle.std.specs.Prelude.{◌≡◌, ◌<◌};
 ghost use Rattle.plexil.specs.Macro.{entry_at, form, entry_spare, index, entry_bits};
 

@@ -1,4 +1,6 @@
 // "Events": refusals 20 to 25 in order, and what an accepted event changes.
+// The phase of a card, tags and marks are numbers, and a state and its card are two: the C interface, C lends them so. A node type is a number: what may
+// not change, image::node_type, a public function, answers the byte.
 #![tactic(auto, unfolding(plexil::specs::Lists::opened, plexil::specs::Macro::opened, plexil::specs::Records::is_command, plexil::specs::Places::mark_at))]
 
 mod answers;

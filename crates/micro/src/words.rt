@@ -1,9 +1,12 @@
 // The words of one micro step, in node order: counted first, then written from the front of the list's part.
+// What is sent is a number: what may not change, the definitions sent_by and word_of, and atomic::sent_by, a public function. 0 sends nothing.
+// Two passes: where the words do not fit, nothing may be written (NoRoom). No plainer as one walk, which would take a list of no places to count.
 ghost use Rattle.std.specs.Prelude.{◌≡◌, ◌∷◌, [], ℕ, ◌≤◌, get_or, length};
 ghost use Rattle.plexil.specs.Lists.{put};
 ghost use Rattle.plexil.specs.Micro.{word_of, words_from};
 
 // "twice the node number, plus 1 for an abort"; sent is 1 for a command's own word, 2 for an abort.
+// No plainer as a From: a node's number and what it sends are no type.
 fn word(i: u16, sent: u8) -> u32
     requires { sent ≡ 0 → ⊥ }
     ensures { word_of i sent ≡ result ∷ [] }

@@ -1,8 +1,9 @@
 // Rule 9: each expression entry by its operator.
-ghost use Rattle.std.specs.Prelude.{◌≡◌};
+ghost use Rattle.std.specs.Prelude.{◌≡◌, [], ◌∷◌};
 ghost use Rattle.plexil.specs.declared.Rule.TheVariants as rule;
-ghost use Rattle.plexil.specs.Expressions.{constant_op, not_op, lt_op, add_op, operator_at};
-ghost use Rattle.plexil.specs.Records.{good_leaf, good_binary, good_operator, good_expression};
+ghost use Rattle.plexil.specs.Lists.{every};
+ghost use Rattle.plexil.specs.Expressions.{constant_op, not_op, operator_at};
+ghost use Rattle.plexil.specs.Records.{takes, kind_of_a, is_number, good_leaf, good_operator, good_expression};
 ghost use Rattle.plexil.specs.Searches.{found_of};
 ghost use Rattle.records.specs.Broken.{lowest_broken};
 
@@ -33,20 +34,12 @@ fn good_not(image: &[u8], e: u16) -> bool
         && image::constant(image, e) == 0
 }
 
-// "10 to 14 take two Int or two Real", LT and LE give Bool
-fn compares(image: &[u8], e: u16) -> bool
-    ensures { result ≡ good_binary lt_op image.now e }
+// "10 to 14 take two Int or two Real": of that kind, the entry itself of kind r.
+fn takes_numbers(image: &[u8], e: u16, r: u8) -> bool
+    ensures { result ≡ every (is_number (kind_of_a image.now e) ∷ takes image.now e (kind_of_a image.now e) r ∷ []) }
 {
     let kind = image::result_kind(image, image::operand_a(image, e));
-    kind != 0 && takes(image, e, kind, 0)
-}
-
-// "12 to 14 keep that kind"
-fn computes(image: &[u8], e: u16) -> bool
-    ensures { result ≡ good_binary add_op image.now e }
-{
-    let kind = image::result_kind(image, image::operand_a(image, e));
-    kind != 0 && takes(image, e, kind, kind)
+    kind != 0 && takes(image, e, kind, r)
 }
 
 #[tactic(auto, unfolding(plexil::specs::Lists::opened, plexil::specs::Expressions::opened, plexil::specs::Records::opened))]
@@ -69,8 +62,8 @@ fn good_operator(image: &[u8], e: u16) -> bool
         6 => good_not(image, e),
         7 | 8 => takes(image, e, 0, 0),
         9 => takes(image, e, image::result_kind(image, a), 0),
-        10 | 11 => compares(image, e),
-        12..=14 => computes(image, e),
+        10 | 11 => takes_numbers(image, e, 0),
+        12..=14 => takes_numbers(image, e, image::result_kind(image, a)),
         _ => false,
     }
 }

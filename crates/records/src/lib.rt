@@ -1,5 +1,7 @@
 // Refusals 1 to 9: the header, the tree of nodes, and each record by itself.
-// good_what, good_constant and good_operator match numbers: what may not change, image's public functions answer bytes, and any byte can stand in an image.
+// Node types, kinds, operators, known flags and 65535 are numbers: what may not change, image's public functions answer the fields, any number can stand in
+// an image, and the definitions of Records compare them with 0, 1, 2 and default.
+// An image and a record's number are two parameters, as in the definitions: no plainer as a struct of the two, which each clause would name by its fields.
 #![tactic(auto, unfolding(plexil::specs::Lists::opened, plexil::specs::Records::opened, plexil::specs::Check::opened))]
 
 mod conditions;

@@ -28,7 +28,7 @@ pub fn broken_tree(image: &[u8]) -> Option<u16>
     first(image::node_count(image), |i| !good_parent(image, i))
 }
 
-// "expression, or 65535 for default"
+// "expression, or 65535 for default"; admit asks so too, with a test of its own: no plainer as one function with a closure.
 fn good_condition(image: &[u8], i: u16, c: Condition) -> bool
     ensures { result ≡ good_condition image.now i c }
 {
@@ -44,6 +44,7 @@ fn good_conditions(image: &[u8], i: u16) -> bool
     all_conditions(|c| good_condition(image, i, c))
 }
 
+// good_list, good_command and good_assignment share two fields, and no test of them is the same in all three: no plainer as one.
 // "list: 65535", and no value
 fn good_list(image: &[u8], i: u16) -> bool
     ensures { result ≡ every (eqb (what image.now i) default ∷ eqb (value_field image.now i) default ∷ []) }

@@ -1,4 +1,5 @@
 // Rule 9: the fields of an entry by the operands that it takes.
+// reads and asks are two, as the definitions have them: no plainer as one with four bounds, since reads wants b = 0 and asks b below n.
 ghost use Rattle.std.specs.Prelude.{◌≡◌};
 ghost use Rattle.plexil.specs.Records.{operand, reads, asks, takes};
 

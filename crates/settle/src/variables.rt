@@ -1,11 +1,14 @@
 // The variables: a write that is settled enters, else the initial value where the owner entered Waiting, else the old cell stays.
 ghost use Rattle.std.specs.Prelude.{◌≡◌, ◌∷◌, [], eqb, ltb, get_or};
+ghost use Rattle.plexil.specs.declared.Status.TheVariants as status;
 ghost use Rattle.plexil.specs.Lists.{every};
+ghost use Rattle.plexil.specs.Places.{same};
 ghost use Rattle.plexil.specs.Order.{entered_waiting, settled_var, settle};
 ghost use Rattle.plexil.specs.Carried.{carry_in};
 ghost use Rattle.plexil.specs.Promises.{IsAdmitted};
 
-use plexil::{Carry, Cell, State, get_or};
+use places::status_at;
+use plexil::{Carry, Cell, State, Status, get_or};
 
 // "A tie for greatest: none writes": a writer was met, and it is not tied.
 fn written(carry: &Carry, v: u16) -> bool
@@ -14,11 +17,18 @@ fn written(carry: &Carry, v: u16) -> bool
     get_or(&carry.top, v, 0) > 0 && get_or(&carry.tied, v, 0) == 0
 }
 
-// Node i was not Waiting (1), and is now.
+fn is_waiting(a: Status) -> bool
+    ensures { result ≡ same a status.Waiting }
+{
+    a == Status::Waiting
+}
+
+// Node i was not Waiting, and is now.
+#[tactic(auto, unfolding(plexil::specs::Lists::opened, plexil::specs::Order::entered_waiting))]
 fn entered_waiting(s: &State, carry: &Carry, i: u16) -> bool
     ensures { result ≡ entered_waiting s.now (carry_in carry.now) i }
 {
-    get_or(&s.status, i, 0) != 1 && get_or(&carry.status, i, 0) == 1
+    !is_waiting(status_at(&s.status, i)) && is_waiting(Status::from(get_or(&carry.status, i, 0)))
 }
 
 // "A node's variables return to their initial values when it enters Waiting"

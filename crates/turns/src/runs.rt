@@ -19,13 +19,11 @@ fn ended(answer: RunAnswer, phase: u32, steps: u16, next: usize, state: State, c
         steps,
         next,
         state,
-        card: Card {
-            serial: card.serial,
-            phase,
-        },
+        card: Card { phase, ..card },
     }
 }
 
+// No plainer as a call of ended: a refusal leaves the card as it was, phase and all.
 // "refusals but 32 answer 0 and the given start place"
 pub(crate) fn refused(answer: RunAnswer, start: usize, state: State, card: Card) -> Ran
     ensures { result ≡ unrun answer start state card }
@@ -69,6 +67,7 @@ pub(crate) fn run_steps(
     ended(RunAnswer::Spent, 0, budget, next, t, card)
 }
 
+// run and turn test and then do run_steps: what may not change, both are public, with RunPermits and TurnPermits; between, a turn has its event enter.
 pub fn run(
     image: &[u8],
     state: State,

@@ -1,4 +1,6 @@
 // "a visit reads only the state before the step and what earlier visits carried on", and the walk over the nodes in order.
+// What a node sends is a number: what may not change, atomic::sent_by, a public function, answers it. So is a tie, in the definition meet.
+// finished and resting are two parameters, as move_of of atomic, a public function, takes them.
 #![tactic(auto)]
 
 ghost use Rattle.std.specs.Prelude.{◌≡◌, not, ℕ, ◌<◌, set, length};
@@ -29,6 +31,7 @@ fn put_place(carry: &mut Carry, i: u16, r: Place, w: bool)
 }
 
 // A writer i of variable v: it leads, or is tied with the leader, or is beaten. mine is one more than its priority.
+// Two tests: no plainer by `cmp`, where the third case would have an empty arm.
 fn meet_writer(carry: &mut Carry, v: u16, mine: u32, i: u16, x: Cell)
     requires { v < 128 }
     ensures { carry_in carry.new ≡ meet (carry_in carry.old) v mine i x }
