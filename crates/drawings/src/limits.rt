@@ -1,13 +1,14 @@
 // Plans at the limits of nodes and depth, and one beyond.
+use super::records::{Entry, Value, Work};
 use super::write;
 
 // A list with n - 1 childless lists below it.
 fn many<const BYTES: usize>(n: u16) -> [u8; BYTES] {
     let mut image = [0u8; BYTES];
     write::header(&mut image, n, 0, 0, 0);
-    write::list(&mut image, 20, 65535);
+    write::node(&mut image, 20, None, Work::List);
     for i in 1..n {
-        write::list(&mut image, 20 + 24 * usize::from(i), 0);
+        write::node(&mut image, 20 + 24 * usize::from(i), Some(0), Work::List);
     }
     image
 }
@@ -25,17 +26,13 @@ pub fn nodes_257() -> [u8; 6188] {
 fn deep<const BYTES: usize>(n: u16) -> [u8; BYTES] {
     let mut image = [0u8; BYTES];
     write::header(&mut image, 1, n, 0, 0);
-    write::list(&mut image, 20, 65535);
-    write::expr(&mut image, 44, 0, 0, 0, 1, 0);
+    write::node(&mut image, 20, None, Work::List);
+    write::expr(&mut image, 44, Entry::Constant(Value::Bool(false)));
     for e in 1..n {
         write::expr(
             &mut image,
             44 + 16 * usize::from(e),
-            6,
-            0,
-            u32::from(e - 1),
-            0,
-            0,
+            Entry::Not(u32::from(e - 1)),
         );
         write::put16(&mut image, 26, u32::from(e));
     }

@@ -1,4 +1,5 @@
 // A small assembler: a record is a row of 16-bit numbers, each least byte first.
+use super::records::{Entry, Kind, Value, Work};
 
 // Past the end nothing is stored.
 pub fn put(buf: &mut [u8], at: usize, b: u8) {
@@ -34,25 +35,31 @@ pub(crate) fn header(buf: &mut [u8], n: u16, e: u16, v: u16, l: u16) {
     numbers(buf, 0, &row);
 }
 
+// The number of none: no parent, condition, variable or entry.
+const NONE: u32 = 65535;
+
 // A node record, its priority 0 and its seven conditions default.
-fn node(buf: &mut [u8], at: usize, parent: u32, kind: u32, what: u32, value: u32) {
-    let none = 65535;
+pub(crate) fn node(buf: &mut [u8], at: usize, parent: Option<u32>, work: Work) {
+    let (node_type, what, value) = match work {
+        Work::List => (0, NONE, NONE),
+        Work::Command(word) => (1, word, NONE),
+        Work::Assignment(variable, entry) => (2, variable, entry),
+    };
     let row = [
-        parent, kind, 0, none, none, none, none, none, none, none, what, value,
+        parent.unwrap_or(NONE),
+        node_type,
+        0,
+        NONE,
+        NONE,
+        NONE,
+        NONE,
+        NONE,
+        NONE,
+        NONE,
+        what,
+        value,
     ];
     numbers(buf, at, &row);
-}
-
-pub(crate) fn list(buf: &mut [u8], at: usize, parent: u32) {
-    node(buf, at, parent, 0, 65535, 65535);
-}
-
-pub(crate) fn command(buf: &mut [u8], at: usize, parent: u32) {
-    node(buf, at, parent, 1, 7, 65535);
-}
-
-pub(crate) fn assignment(buf: &mut [u8], at: usize, parent: u32, what: u32, value: u32) {
-    node(buf, at, parent, 2, what, value);
 }
 
 // Two bytes, two numbers, a spare number and 64 bits.
@@ -73,10 +80,30 @@ fn wide(buf: &mut [u8], at: usize, low: u8, high: u8, a: u32, b: u32, bits: u64)
     numbers(buf, at, &row);
 }
 
-pub(crate) fn expr(buf: &mut [u8], at: usize, op: u8, kind: u8, a: u32, b: u32, constant: u64) {
-    wide(buf, at, op, kind, a, b, constant);
+fn constant(buf: &mut [u8], at: usize, value: Value) {
+    let known = u32::from(value.is_known());
+    wide(buf, at, 0, value.kind().number(), 0, known, value.bits());
 }
 
-pub(crate) fn variable(buf: &mut [u8], at: usize, kind: u8, known: u8, owner: u32, initial: u64) {
-    wide(buf, at, kind, known, owner, 0, initial);
+// An entry without a constant: its operator, its kind and two numbers.
+fn operator(buf: &mut [u8], at: usize, op: u8, kind: Kind, a: u32, b: u32) {
+    wide(buf, at, op, kind.number(), a, b, 0);
+}
+
+pub(crate) fn expr(buf: &mut [u8], at: usize, entry: Entry) {
+    match entry {
+        Entry::Constant(value) => constant(buf, at, value),
+        Entry::Variable(kind, v) => operator(buf, at, 1, kind, v, 0),
+        Entry::BoolLookup(l) => operator(buf, at, 2, Kind::Bool, l, 0),
+        Entry::Not(a) => operator(buf, at, 6, Kind::Bool, a, 0),
+        Entry::And(a, b) => operator(buf, at, 7, Kind::Bool, a, b),
+        Entry::Less(a, b) => operator(buf, at, 10, Kind::Bool, a, b),
+        Entry::Add(a, b) => operator(buf, at, 12, Kind::Int, a, b),
+    }
+}
+
+pub(crate) fn variable(buf: &mut [u8], at: usize, owner: u32, initial: Value) {
+    let known = u8::from(initial.is_known());
+    let kind = initial.kind().number();
+    wide(buf, at, kind, known, owner, 0, initial.bits());
 }

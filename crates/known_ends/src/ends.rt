@@ -1,4 +1,5 @@
 // K1 to K10, each fresh with budget 100.
+use drawings::{LOOKUP, RETURN};
 use plexil::Ran;
 use std::io;
 use telling::{Ended, after, first, root, second, x, y};
@@ -47,10 +48,16 @@ fn issue(rt: &impl Print, name: &str, image: &[u8]) -> io::Result<Ran> {
     Ok(r)
 }
 
-// The return of a node, and the root then.
+// The return of a node, and the root then. With `is_false` it shares `after`, and tells another part of what is left.
 fn returned(rt: &impl Print, image: &[u8], r: &Ran, serial: u32, node: u32) -> io::Result<()> {
     let mut list = [9; 4];
-    let s = after(image, r, &drawings::single(serial, 2, node), 100, &mut list);
+    let s = after(
+        image,
+        r,
+        &drawings::single(serial, RETURN, node),
+        100,
+        &mut list,
+    );
     println!(rt; "{}{}", Ended(&s), root(&s.state))
 }
 
@@ -68,7 +75,7 @@ fn k7(rt: &impl Print) -> io::Result<()> {
 // "Lookup False", and the word then.
 fn is_false(rt: &impl Print, image: &[u8], r: &Ran) -> io::Result<Ran> {
     let mut list = [9; 4];
-    let s = after(image, r, &drawings::single(0, 0, 0), 100, &mut list);
+    let s = after(image, r, &drawings::single(0, LOOKUP, 0), 100, &mut list);
     print!(rt; "{} word {}", Ended(&s), list[0])?;
     Ok(s)
 }

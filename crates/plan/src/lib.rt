@@ -19,7 +19,7 @@ pub struct Opened<'a> {
     pub verdict: Verdict,
 }
 
-// The view beside the check's verdict.
+// The view beside the check's verdict: a struct and no Result, since `OpenPermits` by the definition `opened_of` gives the view of a refused image too.
 pub fn open<'a>(image: &'a [u8]) -> Opened<'a>
     ensures { OpenPermits image.entry result }
 {
@@ -34,6 +34,7 @@ pub fn open<'a>(image: &'a [u8]) -> Opened<'a>
 }
 
 // A record by its number. One that is not below the plan's count has none: in the view of a refused image no number has.
+// Four functions, since each has a record type, a count and a definition of its own, `node_at_of` to `lookup_at_of`; what they share is `then`.
 pub fn node<'a>(plan: Plan<'a>, i: u16) -> Option<NodeRecord>
     ensures { NodePermits plan.entry i result }
 {

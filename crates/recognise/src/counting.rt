@@ -23,7 +23,7 @@ enum Change {
     Settles,
 }
 
-// The tables hold numbers, as the definitions `weights` and `changes` of the same lists do.
+// The tables hold numbers, as the definitions `weights` and `changes` of the same lists do. `weight` and `change_at` are each of one of them.
 
 // How many entries a token makes, by the number of what it says.
 const WEIGHTS: [u8; 94] = [
@@ -46,7 +46,7 @@ fn weight(says: usize) -> u8
     WEIGHTS[says]
 }
 
-// The change of a number of the table.
+// The change of a number of the table, as the definition `change_list` has it: any other number is Adds and no error, so no `TryFrom`.
 #[tactic(auto, unfolding(crate::specs::Replies::change_is, crate::specs::Counting::change_list))]
 fn change_code(k: u8) -> Change
     ensures { change_is result ≡ get_or change_list k adds }

@@ -29,7 +29,8 @@ pub struct Ahead {
 }
 
 // The counts of a plan while its text is followed: what has been declared and begun, the entries that are made or pending, the open lists,
-// whether a name is held that may be a variable's, and whether a node lies too deep, and where the first such begins.
+// whether a name is held that may be a variable's, and whether a node lies too deep, and where the first such begins. Flags and no Option: the definitions
+// `changed` and `count_of` have each field, and count `held` as an entry.
 #[derive(Clone, Copy, Default)]
 pub struct Counts {
     pub nodes: usize,
@@ -43,7 +44,7 @@ pub struct Counts {
     pub place: usize,
 }
 
-// What is told of a text before it is read.
+// What is told of a text before it is read. No Result, and no `Counts` within: `recognise` promises the definition `recognised_of`, which has each field.
 #[derive(Clone, Copy, Default)]
 pub struct Recognised {
     pub accepted: bool,
@@ -59,6 +60,7 @@ pub struct Recognised {
 
 // A place, the last token that said something with the number of what it said, and what is still to come. Where the tape has the text, with
 // so many sayings, the place is the number of those that were heard; where it has not, `sayings` is 0, and the place is one in the text.
+// All are numbers, as `Scanned`, `Advanced` and `Begun` of the definitions have them: `says` is 94 after the last saying, the number `over`.
 #[derive(Clone, Copy)]
 pub struct Cursor {
     pub at: usize,

@@ -31,6 +31,7 @@ fn refused_at(reach: usize) -> Recognised
     }
 }
 
+// As in the definition `tallied`; a `From` would write the same fields.
 fn accepted_as(c: Counts) -> Recognised
     ensures { result ≡ tallied c }
 {
@@ -80,7 +81,7 @@ fn reach_of(text: &[u8], halt: Halt, a: Ahead) -> usize
     }
 }
 
-// What the text says is kept on the tape behind the owners.
+// What the text says is kept on the tape behind the owners. Text and tape are two, as the definition `Tape` has them: the tape alone is written here.
 pub fn recognise(text: &[u8], owner: &mut [usize; 10525]) -> Recognised
     ensures { (result ≡ recognised_of text.now) × (length owner.old ≡ 10525 → (length owner.new ≡ 10525) × Tape text.now owner.new) }
 {

@@ -28,7 +28,7 @@ pub(crate) fn start() -> Ahead
     }
 }
 
-// The end of an expression: of a condition the node goes on, of an assignment it ends.
+// The end of an expression: of a condition the node goes on, of an assignment it ends. Positions are numbers, as the definition `rear_at` has them.
 fn rear_at(rear: u8) -> u8
     ensures { result ≡ rear_at rear }
 {

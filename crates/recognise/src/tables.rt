@@ -96,7 +96,7 @@ const NEXTS: [u8; 270] = [
     0, 0, 0, 0, 0, 0,
 ];
 
-// What the row with the number does, if there is one.
+// What the row with the number does, if there is one: an Option and no `TryFrom`, as in the definition `effect_code`.
 #[tactic(auto, unfolding(crate::specs::Replies::effect_code, crate::specs::Replies::plain_effects))]
 fn effect_code(e: u8) -> Option<Effect>
     ensures { result ≡ effect_code e }
@@ -116,6 +116,7 @@ fn effect_code(e: u8) -> Option<Effect>
     }
 }
 
+// `base` and `owner` are each of one definition, `bases` and `owners`, and each has its own bound: one for both would take the table and be no plainer.
 fn base(at: usize) -> u8
     requires { at < 78 }
     ensures { result ≡ get_or bases at 0 }

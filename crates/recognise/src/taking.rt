@@ -7,7 +7,7 @@ use super::steps::step;
 use super::{Ahead, Cursor, OVER};
 use scan::{Broken, Token};
 
-// A token that can come, what it says, and what is to come after it.
+// A token that can come, what it says, and what is to come after it. Places in the text and no slice, as in the definition `taken_of`.
 #[derive(Clone, Copy)]
 pub struct Taken {
     pub from: usize,
@@ -36,7 +36,7 @@ impl From<Broken> for Halt {
     }
 }
 
-// The next token of the text, at a place with something to come.
+// The next token of the text, at a place with something to come. Text and place are two, as in the definition `taken_of`.
 pub fn take(text: &[u8], at: usize, a: Ahead) -> Result<Taken, Halt>
     ensures { result ≡ taken_of text.now at a }
 {

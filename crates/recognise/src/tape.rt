@@ -1,5 +1,6 @@
 // The tape: what an accepted text says, kept behind the owners of its declarations, so that the text is scanned once. Place 704 has the number of
 // the sayings, 0 where they are not kept; each place from 705 on has two of them: a saying's number, where its token begins and how long it is.
+// Without a heap the array is lent: the number of sayings stands in it, and two sayings are one number there, by the definitions `packed` and `held_in`.
 ghost use Rattle.std.specs.Prelude.{◌≡◌, ◌<◌, ◌≤◌, ◌-◌, set};
 ghost use Rattle.recognise.specs.Tape.{packed, held_in, holding, sealed, Winds, Advanced, Begun};
 
@@ -102,7 +103,7 @@ fn over(c: Cursor) -> Cursor
     }
 }
 
-// To the next saying.
+// To the next saying. Text and tape are two, as in the definition `Advanced`.
 pub fn next<'a>(text: &'a [u8], owner: &'a [usize; 10525], c: Cursor) -> Cursor
     ensures { Advanced text.now owner.now c result }
 {

@@ -1,4 +1,5 @@
 // A comparison that cannot fail is no check: one place of each part of state, card and list is changed.
+// All are numbers, the phase too, since C lends `State` and `Card` of plexil.
 use super::refuse::held;
 use std::io;
 use telling::{Left, kept};

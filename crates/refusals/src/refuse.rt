@@ -3,7 +3,7 @@ use plexil::{Card, State};
 use std::io;
 use telling::Left;
 
-// A state that no plan here reaches, so that a change shows.
+// A state that no plan here reaches, so that a change shows. Codes and phase are numbers, since C lends `State` and `Card` of plexil.
 fn marked() -> State {
     State {
         status: [1; 256],

@@ -1,5 +1,6 @@
 // The calls by value: what each leaves at exit, its answer as a report.
 // Each call fills its exit itself, and through no `From`: a `State` that is passed by value once more takes its 2,752 bytes of the stack of a call again.
+// State and card, list and start stay apart, as C lends them and as the definitions `fresh_reply`, `run_reply` and `turn_reply` take them.
 ghost use Rattle.std.specs.Prelude.{◌≡◌};
 ghost use Rattle.plexil.specs.Replies.{check_reply, fresh_reply, run_reply, turn_reply};
 ghost use Rattle.samblokur.specs.Exits.{check_exit, fresh_exit, run_exit};

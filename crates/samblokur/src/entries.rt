@@ -1,4 +1,5 @@
 // The entry functions, thin over the calls by value, with no branch: "The host lends its own turn card and each call advances that card itself".
+// The C interface: state, card, list and start are what C gives, each by itself.
 ghost use Rattle.samblokur.specs.Permits.{CheckLeaves, FreshLeaves, RunLeaves, EventLeaves};
 
 use super::calls;

@@ -1,4 +1,5 @@
 // Past blanks and comments. A place is where the machine of the definition stands between tokens.
+// Text and place go beside each other, as in `token_at`, `Skipped` and `Passed` of the definitions; a slice from the place on would not tell the place.
 ghost use Rattle.std.specs.Prelude.{◌≤◌, ◌+◌, length};
 ghost use Rattle.grammar.specs.Spelling.{slash, remark, aside};
 ghost use Rattle.grammar.specs.Scan.{token_at};

@@ -1,4 +1,4 @@
-// Where a run of bytes ends.
+// Where a run of bytes ends: a place in the text, as the definition `run_end` counts it.
 ghost use Rattle.std.specs.Prelude.{◌≡◌, ℕ, Bool, drop};
 ghost use Rattle.scan.specs.Runs.{Tells, run_end};
 

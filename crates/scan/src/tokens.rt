@@ -1,4 +1,4 @@
-// A token's end, and the next token.
+// A token's end, and the next token, by their places in the text, as the definitions `token_at` and `ending` count them.
 ghost use Rattle.std.specs.Prelude.{◌≡◌, ◌+◌, ◌<◌, [], ◌∷◌, length, drop, get_or};
 ghost use Rattle.grammar.specs.Scan.{ending, token_at};
 ghost use Rattle.scan.specs.Reply.{token_of};
@@ -7,7 +7,7 @@ use super::bytes::{is_digit, is_letter, is_number_byte, is_pair, is_word_byte};
 use super::comments::{Broken, skip_blanks, skip_comment};
 use super::runs::run_end;
 
-// The bytes of a token are those from `from` up to `to`.
+// The bytes of a token are those from `from` up to `to`: places and no slice, as the definitions `token_of` and `Next` have them.
 #[derive(Clone, Copy)]
 pub struct Token {
     pub from: usize,
@@ -37,6 +37,7 @@ fn token_end(text: &[u8], from: usize) -> usize
 pub fn token_at(text: &[u8], at: usize) -> Result<Option<Token>, Broken>
     ensures { result ≡ token_of (token_at text.now at) }
 {
+    // No `for`: the place goes on by a whole comment, and not by one.
     let mut from = skip_blanks(text, at);
     while from < text.len() {
         if text[from] != b'/' {

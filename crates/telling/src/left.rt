@@ -1,4 +1,5 @@
 // Each call on a state and a card: its answer, and whether state, card and list are kept.
+// A run and a turn stay two functions: they share `told`, and one of both would take an event that a run has not.
 use super::answers::{Ended, Judged};
 use super::given::Left;
 use super::words::kept;
@@ -7,24 +8,20 @@ use std::io;
 
 pub fn fresh(rt: &impl Print, image: &[u8], held: &Left) -> io::Result<()> {
     let r = turns::fresh(image, held.state, held.card);
-    let after = Left {
-        state: r.state,
-        card: r.card,
-    };
-    print!(rt; ", fresh{}{}", Judged(r.verdict), kept(*held == after))
+    print!(rt;
+        ", fresh{}{}",
+        Judged(r.verdict),
+        kept(*held == Left::from(&r))
+    )
 }
 
 // What a run or a turn answered, and whether it left this state and card, and the list as it was.
 fn told(rt: &impl Print, r: &Ran, list: &[u32; 4], left: &Left) -> io::Result<()> {
-    let after = Left {
-        state: r.state,
-        card: r.card,
-    };
     print!(rt;
         "{} next {}{}{}",
         Ended(r),
         r.next,
-        kept(*left == after),
+        kept(*left == Left::from(r)),
         kept(*list == [9; 4])
     )
 }

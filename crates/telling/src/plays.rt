@@ -3,7 +3,7 @@ use super::answers::Judged;
 use plexil::{Card, Ran, Started, State};
 use std::io;
 
-// A state to hand to a fresh start.
+// A state to hand to a fresh start. `marked` of refusals is another in each of its eight parts, so that a function of both would take all eight.
 fn blank() -> State {
     State {
         status: [0; 256],
@@ -17,7 +17,7 @@ fn blank() -> State {
     }
 }
 
-// "Each plan starts fresh"
+// "Each plan starts fresh". The phase is a number, since C lends the `Card` of plexil.
 pub fn start(image: &[u8]) -> Started {
     let card = Card {
         serial: 0,

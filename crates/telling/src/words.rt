@@ -2,41 +2,45 @@
 use plexil::State;
 use std::fmt;
 
-// The value of a cell: Unknown, a Bool's name, or the bits as a number.
+// The value of a cell: Unknown, a Bool, or the bits as a number.
 #[derive(Clone, Copy)]
-pub struct Value {
-    tag: u8,
-    bits: u64,
+pub enum Value {
+    Unknown,
+    Bool(bool),
+    Number(u64),
 }
 
 impl fmt::Display for Value {
     fn fmt<W: fmt::Write>(&self, f: &mut fmt::Formatter<W>) -> fmt::Result {
-        match (self.tag, self.bits) {
-            (0, _) => f.write_str("Unknown"),
-            (1, 0) => f.write_str("False"),
-            (1, _) => f.write_str("True"),
-            (_, bits) => write!(f, "{bits}"),
+        match *self {
+            Value::Unknown => f.write_str("Unknown"),
+            Value::Bool(false) => f.write_str("False"),
+            Value::Bool(true) => f.write_str("True"),
+            Value::Number(bits) => write!(f, "{bits}"),
         }
+    }
+}
+
+// Tags and bits stand side by side, and a tag is a number, since C lends the `State` of plexil.
+fn of_cell(tag: u8, bits: u64) -> Value {
+    match tag {
+        0 => Value::Unknown,
+        1 => Value::Bool(bits != 0),
+        _ => Value::Number(bits),
     }
 }
 
 // Variable 0, under the name x.
 pub fn x(s: &State) -> Value {
-    Value {
-        tag: s.vartags[0],
-        bits: s.varbits[0],
-    }
+    of_cell(s.vartags[0], s.varbits[0])
 }
 
 // Variable 1, under the name y.
 pub fn y(s: &State) -> Value {
-    Value {
-        tag: s.vartags[1],
-        bits: s.varbits[1],
-    }
+    of_cell(s.vartags[1], s.varbits[1])
 }
 
-// Outcome and failure of a node.
+// Outcome and failure of a node, by their codes: C lends the `State` of plexil, where any byte may stand, told as " ?" where it is no code.
 #[derive(Clone, Copy)]
 pub struct NodeEnd {
     outcome: u8,
@@ -71,7 +75,7 @@ fn node_end(s: &State, i: u8) -> NodeEnd {
     }
 }
 
-// Node 0; below, its two children.
+// Node 0; below, its two children. Each has a public name of its own over `node_end`, which has the number.
 pub fn root(s: &State) -> NodeEnd {
     node_end(s, 0)
 }

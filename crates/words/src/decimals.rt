@@ -6,7 +6,7 @@ ghost use Rattle.grammar.specs.Scan.{some_digits};
 use crate::numbers::only_digits;
 use scan::{is_digit, run_end};
 
-// The place after at most k digits from `at` on.
+// The place after at most k digits from `at` on: text and place, as the definition `some_digits` is of what is dropped, and `real_prefix` goes on from there.
 pub fn digits_end(t: &[u8], at: usize, k: usize) -> usize
     ensures { result ≡ at + some_digits k (drop at t.now) }
 {
@@ -27,7 +27,8 @@ fn is_fraction(t: &[u8], k: usize) -> bool
     only_digits(t)
 }
 
-// Digits, '.' and digits, at most 15 in all.
+// Digits, '.' and digits, at most 15 in all. Beside `real_prefix`, with which it shares `digits_end`: that also counts what is no decimal yet, as "12"
+// and "12.", so that by it this would ask of '.' and of the last byte again.
 pub fn is_real(t: &[u8]) -> bool
     ensures { result ≡ is_real t.now }
 {

@@ -1,5 +1,5 @@
 // The words and signs of the notation, by their length: each is followed by its class. For what is none of them the definitions `found_in` and
-// `literal_class` have 67, the class of names.
+// `literal_class` have 67, the class of names. A run of bytes and no map, which would need a heap; a table by length would have the same rows as `literal`.
 ghost use Rattle.std.specs.Prelude.{◌≡◌};
 ghost use Rattle.words.specs.Groups.{found_in, literal_class};
 

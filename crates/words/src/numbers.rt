@@ -1,4 +1,5 @@
-// The number that a token's digits write, and a number with its sign as 64 bits.
+// The number that a token's digits write, and a number with its sign as 64 bits. No `parse` and no `TryFrom`: the definitions `all_digits` and
+// `value_from` answer for any bytes, and what may not change, `number_of`, `signed` and `signed_bits` promise what the definitions say.
 ghost use Rattle.std.specs.Prelude.{◌≡◌, ◌+◌, ◌-◌, ◌*◌, ◌<◌, ◌≤◌, true};
 ghost use Rattle.grammar.specs.Leads.{digits, is_number, value_from};
 ghost use Rattle.notation.specs.Numbers as Numbers;

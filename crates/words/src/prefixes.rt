@@ -8,7 +8,7 @@ use crate::decimals::digits_end;
 use crate::numbers::{BOUNDS, onward};
 use scan::{is_digit, is_letter};
 
-// The place after the k-th blank of words.
+// The place after the k-th blank of words: they stand in one run of bytes, as the definition `after_blanks` has them, and no map, which would need a heap.
 fn start(words: &[u8], k: u8) -> usize
     ensures { (result ≤ length words.now) × (drop result words.now ≡ after_blanks k words.now) }
 {

@@ -1,4 +1,4 @@
-// The bits of a decimal: the fraction that its digits write, rounded once.
+// The bits of a decimal: the fraction that its digits write, rounded once. By hand, since `real_bits` may not change: it promises the definition `real_bits`.
 ghost use Rattle.std.specs.Prelude.{◌≡◌, ◌^◌, ◌<◌, ◌≤◌, true, false};
 ghost use Rattle.std.specs.Float.Ieee as Ieee;
 ghost use Rattle.std.specs.Float.{binary64};
