@@ -20,6 +20,20 @@ pub struct Course {
     pub variables: usize,
 }
 
+impl Described {
+    // Where a reader of nodes stands after these attributes, with so many nodes.
+    fn course(self, nodes: usize) -> Course
+        ensures { result ≡ record { at = self.at; nodes = nodes; entries = self.entries; variables = self.variables } }
+    {
+        Course {
+            at: self.at,
+            nodes,
+            entries: self.entries,
+            variables: self.variables,
+        }
+    }
+}
+
 // "Command" or "Assignment", whose first saying has been heard.
 fn task<'a>(
     source: Source<'a>,
@@ -35,39 +49,29 @@ fn task<'a>(
 {
     let at = a.at;
     if at.says == 10 {
-        let what = command(source, at);
         let called = Record {
             parent,
             form: COMMAND,
             priority: a.priority,
             given,
-            what,
+            what: command(source, at),
             value: NOTHING,
         };
-        let n = add_node(image, node, called);
-        return Course {
-            at,
-            nodes: n,
-            entries: a.entries,
-            variables: a.variables,
-        };
+        return a.course(add_node(image, node, called));
     }
-    let v = variable(source, node, at);
     let e = expression(source, image, pending, node, at, a.entries);
     let assigned = Record {
         parent,
         form: ASSIGNMENT,
         priority: a.priority,
         given,
-        what: v.number,
+        what: variable(source, node, at).number,
         value: last(e.entries),
     };
-    let n = add_node(image, node, assigned);
     Course {
         at: e.at,
-        nodes: n,
         entries: e.entries,
-        variables: a.variables,
+        ..a.course(add_node(image, node, assigned))
     }
 }
 
@@ -99,12 +103,7 @@ pub fn node<'a>(
         value: NOTHING,
     };
     let n = add_node(image, number, listed);
-    let inner = Course {
-        at,
-        nodes: n,
-        entries: a.entries,
-        variables: a.variables,
-    };
+    let inner = a.course(n);
     if left == 0 {
         return inner;
     }

@@ -36,5 +36,5 @@ pub node-returns : goal.node-returns
 node-returns t c whole before size k room site h m o =
     let a = c.attributes-a.ensures.0 whole before _ size k room site h m refl o in
     let l = list-opens _ whole before _ size k _ _ _ a.0 _ _ _ _ _ _ site o.counted c.if-at-ne8.false c.add_node-n.ensures in
-    let x = c.list.ensures whole l.0 _ (size - 1) k a.2 site (omega arith) (omega arith) l.1 in
+    let x = c.list.ensures whole l.0 _ (size - 1) k a.2 site (omega arith) (omega arith) (rw c.course-inner.ensures l.1) in
     (done-in l.2 (omega arith) x.0, x.1)
