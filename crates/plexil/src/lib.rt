@@ -31,7 +31,8 @@ pub enum Pair {
     Reals(f64, f64),
 }
 
-// A kept value: the tag is 0 for Unknown, else one more than the kind; Unknown has bits 0. An Option of a kind and bits would not be what C lends.
+// A kept value: the tag is 0 for Unknown, else one more than the kind; Unknown has bits 0. An Option of a kind and bits would not be what
+// State's arrays keep, which C lends, nor what the definition cell (specs/Values) makes of them.
 #[derive(Clone, Copy, PartialEq, Eq)]
 pub struct Cell {
     pub tag: u8,
@@ -52,7 +53,7 @@ pub struct State {
     pub lookbits: [u64; 64],
 }
 
-// The turn card: the next serial, and the phase, 0 Running or 1 Quiet.
+// The turn card: the next serial, and the phase, 0 Running or 1 Quiet, a number since C lends it so.
 #[repr(C)]
 #[derive(Clone, Copy, PartialEq, Eq)]
 pub struct Card {
@@ -94,7 +95,7 @@ pub enum Condition {
     Repeat,
 }
 
-// What a rule makes of outcome and failure. Failed has the outcome and the failure, by the codes that a state keeps; Judged: IterationEnded through End or Finishing.
+// What a rule makes of outcome and failure. Failed has the outcome and the failure, by the codes that State's arrays keep, which C lends; Judged: IterationEnded through End or Finishing.
 #[derive(Clone, Copy)]
 pub enum Effect {
     Kept,
@@ -104,8 +105,8 @@ pub enum Effect {
     Judged,
 }
 
-// What a node does in a micro step. Stay: no rule applies. An enum of its own and no Option: what may not change, atomic::move_of answers the definition's move_of,
-// and the theorems of specs/FrameworkPromises and specs/Promises speak of Stay and Go.
+// What a node does in a micro step. Stay: no rule applies. An enum of its own and no Option: what may not change, the definitions move_of (specs/Atomic) and Atomic
+// (specs/Framework), on which the theorems of specs/FrameworkPromises stand, speak of Stay and Go, and atomic::move_of answers them.
 #[derive(Clone, Copy)]
 pub enum Move {
     Stay,
