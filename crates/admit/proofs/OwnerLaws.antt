@@ -5,8 +5,7 @@ use mathlib.Core.Bool.{Bool, true, false, false≢true}
 use mathlib.Core.List.{List, [], ◌∷◌}
 use mathlib.Core.Logic.{◌⊎◌, inl, inr, ⊎_elim}
 use native.Mathlib.Omega.{arith}
-use native.Mathlib.Numerals.{add-one}
-use lib.ListN.{length, get_or, set, length-set}
+use lib.ListN.{get_or, set, length-set}
 use lib.Seq.{get_or-set_same, get_or-set_other}
 use borrow.Author.Tests.{ne_eqb, ltb-true, leb-true, not-false}
 use Rattle.plexil.specs.declared.Condition.{Condition}
@@ -30,9 +29,6 @@ use Rattle.admit.proofs.Scope.{tree-variable, tree-leaf, tree-not, tree-binary}
 pub allows-node : (p : Image) (o i : ℕ) → (o ≡ 0 → ⊥) → (o ≡ nobody → ⊥) → allows p o i ≡ is_above p (suc i) (o - 1) i
 unfolding allows when◌then◌else◌
 allows-node p o i h g = rw (ne_eqb o 0 h, ne_eqb o nobody g) refl
-
-pub allows-by : (p : Image) (o i : ℕ) (r : Bool) → (o ≡ 0 → ⊥) → (o ≡ nobody → ⊥) → r ≡ is_above p (i + 1) (o - 1) i → r ≡ allows p o i
-allows-by p o i r h g e = e ∙ rw (add-one i) (sym (allows-node p o i h g))
 
 pub allows-nothing : (p : Image) (o i : ℕ) → o ≡ 0 → allows p o i ≡ true
 unfolding allows when◌then◌else◌
@@ -194,9 +190,6 @@ module _ (p : Image) (o : Ordered p) (e : ℕ) (below : e < expr_count p) {op : 
 
 -- ---- the table
 module _ (p : Image) (e o : ℕ) (t : List ℕ) where
-  pub owned-start : length t ≡ 2048 → Owned p 0 t
-  owned-start h = record { long = h; asks = λ j l. absurd (omega arith); asked = λ j l. absurd (omega arith) }
-
   pub owned-next : Owned p e t → e < 2048 → Asked p o → Asks p e o → Owned p (e + 1) (set t e o)
   owned-next f b s a = record { long = length-set t e o ∙ f.long; asks = λ j l. asks' j l (same? j e); asked = λ j l. asked' j l (same? j e) }
     where

@@ -43,7 +43,7 @@ pub said : (a b : Status) {x : Bool} → x ≡ sameb status.the_type a b → sam
 said a b e = sym (e ∙ equal_same a b)
 
 pub equals : (a b : Status) {r x : Bool} → r ≡ sameb status.the_type a b → r ≡ x → same a b ≡ x
-equals a b e h = sym (equal_same a b) ∙ (sym e ∙ h)
+equals a b e h = said a b e ∙ h
 
 -- ---- a mark as an array tells it
 pub mark-is : (s : State) (i : ℕ) {mk : List ℕ} {m : ℕ} → s.mark ≡ mk → m ≡ get_or mk i 0 → m ≡ mark_at s i

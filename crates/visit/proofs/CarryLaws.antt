@@ -19,9 +19,9 @@ use Rattle.plexil.specs.Atomic.{move_of}
 use Rattle.plexil.specs.Micro.{judges, writes, written, place_by, place, sent_by, sent, stays}
 use Rattle.plexil.specs.Order.{Carry, put_place, meet, visit, walk_to}
 use Rattle.plexil.specs.Promises.{IsAdmitted}
-use Rattle.plexil.proofs.ListLaws.{if-true, if-false, every-at, all_below-not}
+use Rattle.plexil.proofs.ListLaws.{if-true, if-false, every-at}
 use Rattle.plexil.proofs.RenewLaws.{whole}
-use Rattle.plexil.proofs.LoopLaws.{all-next, all_below-more}
+use Rattle.plexil.proofs.LoopLaws.{all_below-more}
 use Rattle.plexil.proofs.AnyOrder.{fits}
 use Rattle.plexil.proofs.NodeOrder.{walk_to-next}
 
@@ -90,21 +90,3 @@ pub walk_end : (p : Image) (s : State) (c₀ : Carry) (sent₀ : List ℕ) (i : 
     → (moved ≡ not (all_below (node_count p) (λ (k : ℕ). stays (move_of p s k)))) × (c ≡ walk_to p s c₀ (node_count p)) × (l ≡ renew (node_count p) (sent p s) sent₀)
 walk_end p s c₀ sent₀ i e a b d =
     (a ∙ ap (λ (n : ℕ). not (all_below n (λ (k : ℕ). stays (move_of p s k)))) e, b ∙ ap (walk_to p s c₀) e, whole i (sent p s) sent₀ _ d e)
-
--- ---- a pass in which every node has stayed
-module _ (p : Image) (s : State) (i : ℕ) {m : Move} (e : m ≡ move_of p s i) {b : Bool} (h : b ≡ not (stays m)) where
-  stay-is : stays (move_of p s i) ≡ not b
-  stay-is = sym (ap not (h ∙ ap (λ (x : Move). not (stays x)) e) ∙ not-not (stays (move_of p s i)))
-    where
-      not-not : (x : Bool) → not (not x) ≡ x
-      not-not true = refl
-      not-not false = refl
-
-  pub none_below : b ≡ true → i < node_count p → false ≡ all_below (node_count p) (λ (k : ℕ). stays (move_of p s k))
-  none_below t l = sym (all_below-not (node_count p) _ i l (stay-is ∙ ap not t))
-
-  pub stay-below : b ≡ false → all_below i (λ (k : ℕ). stays (move_of p s k)) ≡ true → all_below (i + 1) (λ (k : ℕ). stays (move_of p s k)) ≡ true
-  stay-below t a = all-next i _ a (stay-is ∙ ap not t)
-
-pub all-below : (p : Image) (s : State) {i : ℕ} → i ≡ node_count p → all_below i (λ (k : ℕ). stays (move_of p s k)) ≡ true → true ≡ all_below (node_count p) (λ (k : ℕ). stays (move_of p s k))
-all-below p s e a = sym (ap (λ (n : ℕ). all_below n (λ (k : ℕ). stays (move_of p s k))) (sym e) ∙ a)
