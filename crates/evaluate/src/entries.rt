@@ -71,11 +71,12 @@ fn entered(image: &[u8], base: u32, seen: &Seen, e: u16, depth: usize) -> Entry
 
 // "an expression tree is at most 12 deep": as many operators can be pending. It goes down to an entry that has a value, then up with it, as far as an operator
 // whose second operand is to come. These are two loops, since on the way down there is no value to carry, and no turn has to test which way it goes.
+// No place is read before it is written, so what they start as is free: First, since Not is zeros alone and laid by a call of memset, on more stack.
 pub fn value_of(image: &[u8], seen: &Seen, e: u16) -> Worked
     ensures { result ≡ value_of image.now (seen_lent seen.now) e }
 {
     let base = image::exprs_at(image);
-    let mut pending = [Pending::Not; 12];
+    let mut pending = [Pending::First(0, 0); 12];
     let mut n: usize = 0;
     let mut entry = e;
     'down: loop {
