@@ -4,7 +4,7 @@ use mathlib.Core.Path.{◌≡◌, sym, ◌∙◌, subst}
 use mathlib.Core.List.{List}
 use mathlib.Core.Logic.{◌⊎◌, inl, inr}
 use native.Mathlib.Omega.{arith}
-use lib.ListN.{get_or, set, length-set}
+use lib.ListN.{length, get_or, set, length-set}
 use lib.Seq.{get_or-set_same, get_or-set_other}
 use Rattle.plexil.specs.Image.{Image, expr_count, operator, operand_a, operand_b}
 use Rattle.plexil.proofs.ListLaws.{same?}
@@ -26,6 +26,9 @@ filled_next p e d t f b h s =
     shallow : (j : ℕ) → j < e + 1 → (j ≡ e) ⊎ (j ≡ e → ⊥) → get_or (set t e d) j 0 ≤ 12
     shallow j l (inl q) = rw (q, here) s
     shallow j l (inr q) = rw (get_or-set_other t e j d 0 q) (f.shallow j (omega (arith, q)))
+
+pub filled-start : (p : Image) (t : List ℕ) → length t ≡ 2048 → Filled p 0 t
+filled-start p t h = record { long = h; depths = λ j l. absurd (omega arith); shallow = λ j l. absurd (omega arith) }
 
 -- ---- an entry by its operator op and the numbers a and b of its operands
 module _ {p : Image} {e : ℕ} {t : List ℕ} (pre : Passed p × ((e < expr_count p) × Filled p e t)) {op a : ℕ} (is : op ≡ operator p e) (is-a : a ≡ operand_a p e) where

@@ -5,7 +5,7 @@ use mathlib.Core.Bool.{Bool, true, false, false≢true}
 use mathlib.Core.List.{List, [], ◌∷◌}
 use mathlib.Core.Logic.{◌⊎◌, inl, inr, ⊎_elim}
 use native.Mathlib.Omega.{arith}
-use lib.ListN.{get_or, set, length-set}
+use lib.ListN.{length, get_or, set, length-set}
 use lib.Seq.{get_or-set_same, get_or-set_other}
 use borrow.Author.Tests.{ne_eqb, ltb-true, leb-true, not-false}
 use Rattle.plexil.specs.declared.Condition.{Condition}
@@ -190,6 +190,9 @@ module _ (p : Image) (o : Ordered p) (e : ℕ) (below : e < expr_count p) {op : 
 
 -- ---- the table
 module _ (p : Image) (e o : ℕ) (t : List ℕ) where
+  pub owned-start : length t ≡ 2048 → Owned p 0 t
+  owned-start h = record { long = h; asks = λ j l. absurd (omega arith); asked = λ j l. absurd (omega arith) }
+
   pub owned-next : Owned p e t → e < 2048 → Asked p o → Asks p e o → Owned p (e + 1) (set t e o)
   owned-next f b s a = record { long = length-set t e o ∙ f.long; asks = λ j l. asks' j l (same? j e); asked = λ j l. asked' j l (same? j e) }
     where

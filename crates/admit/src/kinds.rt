@@ -10,7 +10,7 @@ ghost use Rattle.plexil.specs.Searches.{found_of};
 ghost use Rattle.records.specs.Broken.{lowest_broken};
 
 use plexil::{Condition, first};
-use records::all_conditions;
+use records::each_condition;
 
 fn bool_condition(image: &[u8], i: u16, c: Condition) -> bool
     ensures { result ≡ some (eqb (condition_field image.now i c) default ∷ eqb (result_kind image.now (condition_field image.now i c)) 0 ∷ []) }
@@ -22,7 +22,7 @@ fn bool_condition(image: &[u8], i: u16, c: Condition) -> bool
 fn bool_conditions(image: &[u8], i: u16) -> bool
     ensures { result ≡ given_pass image.now i (λ e. eqb (result_kind image.now e) 0) }
 {
-    all_conditions(|c| bool_condition(image, i, c))
+    each_condition(|c| bool_condition(image, i, c))
 }
 
 fn good_value(image: &[u8], i: u16) -> bool

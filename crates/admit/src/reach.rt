@@ -10,7 +10,7 @@ ghost use Rattle.admit.specs.Owners.{Ordered, Owned};
 
 use super::owners::{allowed, asked};
 use plexil::{Condition, first};
-use records::all_conditions;
+use records::each_condition;
 
 // The owner is node i or above it; the walk goes up at most `left` nodes.
 pub(crate) fn is_above(image: &[u8], left: u32, owner: u16, mut i: u16) -> bool
@@ -66,7 +66,7 @@ impl<'a> Reach<'a> {
         requires { i < node_count self.now.image.now }
         ensures { result ≡ given_pass self.now.image.now i (tree_in_scope self.now.image.now i 12) }
     {
-        all_conditions(|c| self.condition_in_scope(i, c))
+        each_condition(|c| self.condition_in_scope(i, c))
     }
 
     fn assignment_in_scope(&self, i: u16) -> bool

@@ -11,8 +11,6 @@ use Rattle.evaluate.specs.declared.entries.Pending.{Pending}
 use Rattle.evaluate.specs.declared.entries.Pending.TheVariants.{Not, First, Second}
 use Rattle.evaluate.specs.declared.entries.Entry.{Entry}
 use Rattle.evaluate.specs.declared.entries.Entry.TheVariants.{Value, Operand}
-use Rattle.evaluate.specs.declared.entries.Turn.{Turn}
-use Rattle.evaluate.specs.declared.entries.Turn.TheVariants.{Down, Up}
 
 -- what entry e comes to, by its operator
 unfoldable pub entered_by : Operator → Image → Seen → ℕ → Entry
@@ -37,11 +35,6 @@ unfoldable pub resumed : Image → Seen → ℕ → List Pending → ℕ → Wor
 resumed p s zero pending left v = v
 resumed p s (suc n) pending left v = resumed p s n pending (suc left) (ended_of p s left (get_or pending n Not) v)
 
--- the value that goes up, or the entry that is gone into
-unfoldable pub current : Image → Seen → ℕ → Turn → Worked
-current p s left (Up v) = v
-current p s left (Down e) = eval_of p s left e
-
 -- how many turns an entry with so many levels to go takes at most
 unfoldable pub turns_of : ℕ → ℕ
 turns_of zero = 1
@@ -57,8 +50,3 @@ turns_to_end left (Second op x) = 1
 unfoldable pub pending_turns : ℕ → List Pending → ℕ → ℕ
 pending_turns zero pending left = 0
 pending_turns (suc n) pending left = turns_to_end left (get_or pending n Not) + pending_turns n pending (suc left)
-
--- and the entry that is gone into, if one is
-unfoldable pub current_turns : ℕ → Turn → ℕ
-current_turns left (Up v) = 0
-current_turns left (Down e) = turns_of left

@@ -43,13 +43,6 @@ pub enum Entry {
     Operand(Pending, u16),
 }
 
-// An entry that is gone into, or a value that goes up.
-#[derive(Clone, Copy)]
-pub enum Turn {
-    Down(u16),
-    Up(Worked),
-}
-
 // entered and answer of answers are two: no plainer as one, since answer has both operands' values in its table, this one answers before they are there.
 // `base` is worked out once for all entries: no plainer in a struct with the image, where each clause would name the two by their fields.
 // What entry e comes to, so deep in its expression; the expressions stand at `base`.
@@ -76,41 +69,43 @@ fn entered(image: &[u8], base: u32, seen: &Seen, e: u16, depth: usize) -> Entry
     Entry::Operand(Pending::First(op, image::le16(image, at + 4)), first)
 }
 
-// "an expression tree is at most 12 deep": as many operators can be pending.
+// "an expression tree is at most 12 deep": as many operators can be pending. It goes down to an entry that has a value, then up with it, as far as an operator
+// whose second operand is to come. These are two loops, since on the way down there is no value to carry, and no turn has to test which way it goes.
+// No place is read before it is written, so what they start as is free: First, since Not is zeros alone and laid by a call of memset, on more stack.
 pub fn value_of(image: &[u8], seen: &Seen, e: u16) -> Worked
     ensures { result ≡ value_of image.now (seen_lent seen.now) e }
 {
     let base = image::exprs_at(image);
-    let mut pending = [Pending::Not; 12];
+    let mut pending = [Pending::First(0, 0); 12];
     let mut n: usize = 0;
-    let mut turn = Turn::Down(e);
-    loop {
-        match turn {
-            Turn::Down(e) => match entered(image, base, seen, e, n) {
-                Entry::Value(v) => turn = Turn::Up(v),
-                Entry::Operand(operator, a) => {
-                    pending[n] = operator;
-                    n += 1;
-                    turn = Turn::Down(a);
+    let mut entry = e;
+    'down: loop {
+        let mut v = match entered(image, base, seen, entry, n) {
+            Entry::Value(v) => v,
+            Entry::Operand(operator, a) => {
+                pending[n] = operator;
+                n += 1;
+                entry = a;
+                continue;
+            }
+        };
+        'up: loop {
+            if n == 0 {
+                return v;
+            }
+            match pending[n - 1] {
+                Pending::Not => {
+                    n -= 1;
+                    v = values::not_of(v);
                 }
-            },
-            Turn::Up(v) => {
-                if n == 0 {
-                    return v;
+                Pending::First(op, b) => {
+                    pending[n - 1] = Pending::Second(op, v);
+                    entry = b;
+                    break;
                 }
-                match pending[n - 1] {
-                    Pending::Not => {
-                        n -= 1;
-                        turn = Turn::Up(values::not_of(v));
-                    }
-                    Pending::First(op, b) => {
-                        pending[n - 1] = Pending::Second(op, v);
-                        turn = Turn::Down(b);
-                    }
-                    Pending::Second(op, x) => {
-                        n -= 1;
-                        turn = Turn::Up(join(op, x, v));
-                    }
+                Pending::Second(op, x) => {
+                    n -= 1;
+                    v = join(op, x, v);
                 }
             }
         }

@@ -6,7 +6,10 @@ mod small;
 
 use std::io;
 
-fn main(rt: HostRuntime) -> io::Result<()> {
-    small::all(&rt)?;
-    ends::all(&rt)
+// An error of writing is passed over: what a case tells is held to a kept text, and a program that cannot write has nobody to tell.
+fn pass_over(_written: io::Result<()>) {}
+
+fn main(rt: HostRuntime) {
+    small::all(&rt);
+    ends::all(&rt);
 }

@@ -1,6 +1,7 @@
 -- The walk up from a node: one law for variables and for nodes.
 use Prim.Native.Nat.{ℕ, zero, suc, ◌<◌, ◌-◌}
 use mathlib.Core.Path.{◌≡◌, refl, ap, sym, ◌∙◌}
+use mathlib.Core.Logic.{◌⊎◌, inl, inr}
 use mathlib.Core.Bool.{true, false}
 use native.Mathlib.Omega.{arith}
 use Rattle.plexil.specs.Lists.{Found, at, nowhere}
@@ -61,6 +62,13 @@ module _ (f : ℕ → Found) (p : ℕ → ℕ) where
       onto : (g : Found) → is_some (found_of g) ≡ true → ◌≡◌ {A = Found} (elim g [ at v ↦ at v | nowhere ↦ go_up f p k (p (suc n)) ]) g
       onto (at v) e = refl
       onto nowhere e = absurd (let z : ◌≡◌ {A = ℕ} 0 1 = cc in omega arith)
+
+  pub up-over : (k n : ℕ) → is_some (found_of (f n)) ≡ false → (n ≡ 0) ⊎ (k ≡ 0) → go_up f p (suc k) n ≡ nowhere
+  unfolding go_up
+  up-over k zero e h = found-is (f 0) e
+  up-over k (suc n) e (inl h) = absurd (omega arith)
+  up-over zero (suc n) e (inr h) = else-on (f (suc n)) nowhere (found-is (f (suc n)) e)
+  up-over (suc k) (suc n) e (inr h) = absurd (omega arith)
 
   pub up-root : (k n : ℕ) → n ≡ 0 → go_up f p (suc k) n ≡ f n
   unfolding go_up

@@ -1,8 +1,9 @@
 -- A walk halfway through an accepted text: what has been told, and what is left of it.
-use Prim.Native.Nat.{ℕ}
+use Prim.Native.Nat.{ℕ, ◌<◌}
 use mathlib.Core.Path.{◌≡◌, refl, subst}
 use mathlib.Core.List.{List, [], ◌∷◌}
 use mathlib.Core.Option.{some}
+use native.Mathlib.Omega.{arith}
 use lib.ListN.{length}
 use Rattle.grammar.specs.Table.{Said}
 use Rattle.notation.specs.Sayings.{Saying}
@@ -12,7 +13,7 @@ use Rattle.recognise.specs.Tape.{Tape}
 use Rattle.recognise.specs.Aptness.{Apt, AllApt}
 use Rattle.recognise.proofs.Aptness.{all-apt}
 use Rattle.names.specs.declared.walk.Walk.{Walk}
-use Rattle.names.specs.Roles.{role_of}
+use Rattle.names.specs.Roles.{Role, role_of, role_number}
 use Rattle.names.specs.Tale.{Tale, untold, tell, tell_all, tale_of}
 use Rattle.names.specs.Order.{Standing, declaring, after}
 use Rattle.names.specs.Seek.{Shallow}
@@ -45,6 +46,25 @@ pub record Newly (u ls : List ℕ) (r : Walk) (l : List (Said Saying)) (P : Tale
   pub follows : Follows u ls r (tell said tale) next rest
   pub apt : AllApt rest
   pub whole : tell_all rest (tell said tale) ≡ tale_said l
+
+pub role-below : (r : Role) → role_number r < 16
+unfolding role_number
+role-below Role.other = omega arith
+role-below Role.number = omega arith
+role-below Role.command = omega arith
+role-below Role.lookup = omega arith
+role-below Role.variable = omega arith
+role-below Role.named = omega arith
+role-below Role.unnamed = omega arith
+role-below Role.opens = omega arith
+role-below Role.shuts = omega arith
+role-below Role.call = omega arith
+role-below Role.assign = omega arith
+role-below Role.read = omega arith
+role-below Role.mention = omega arith
+role-below Role.descend = omega arith
+role-below Role.ask = omega arith
+role-below Role.settle = omega arith
 
 pub shallow-said : (u : List ℕ) (l : List (Said Saying)) → Accepted u l → Shallow (tale_said l).levels
 shallow-said u l a =

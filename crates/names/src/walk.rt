@@ -108,6 +108,8 @@ pub fn start(owner: &[usize; 10525]) -> Walk
 }
 
 // To the next saying, where there is one.
+// Inlined: a walk is 120 bytes, which each loop over a text would else copy for each saying: a reading takes a quarter longer without.
+#[inline(always)]
 pub fn step<'a>(
     text: &'a [u8],
     owner: &'a [usize; 10525],

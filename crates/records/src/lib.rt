@@ -11,7 +11,7 @@ mod nodes;
 mod operands;
 mod variables;
 
-pub use conditions::all_conditions;
+pub use conditions::{all_conditions, each_condition};
 pub use expressions::broken_expression;
 pub use header::{broken_count, broken_edition, broken_layout, broken_short};
 pub use nodes::{broken_node, broken_tree};

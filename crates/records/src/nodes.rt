@@ -7,7 +7,7 @@ ghost use Rattle.plexil.specs.Records.{good_parent, good_condition, good_what, g
 ghost use Rattle.plexil.specs.Searches.{found_of};
 ghost use Rattle.records.specs.Broken.{lowest_broken};
 
-use crate::conditions::all_conditions;
+use crate::conditions::each_condition;
 use plexil::{Condition, first};
 
 // "Node 0 has parent 65535; any other parent is a list with a lower number"
@@ -36,12 +36,12 @@ fn good_condition(image: &[u8], i: u16, c: Condition) -> bool
     e == 65535 || e < image::expr_count(image)
 }
 
-// The definition all_conditions stays closed here, as all_conditions' own clause has it.
+// The definition all_conditions stays closed here, as each_condition's own clause has it.
 #[tactic(auto)]
 fn good_conditions(image: &[u8], i: u16) -> bool
     ensures { result ≡ all_conditions (good_condition image.now i) }
 {
-    all_conditions(|c| good_condition(image, i, c))
+    each_condition(|c| good_condition(image, i, c))
 }
 
 // good_list, good_command and good_assignment share two fields, and no test of them is the same in all three: no plainer as one.

@@ -1,20 +1,20 @@
 // A vector for each of the refusals 20 to 25 and 30 to 32.
+use super::pass_over;
 use super::refuse::held;
 use drawings::{LOOKUP, RETURN};
 use plexil::Ran;
-use std::io;
 use telling::{Left, after, play, start};
 
 // A turn of the lone command.
-fn refuse(rt: &impl Print, name: &str, held: &Left, event: &[u8]) -> io::Result<()> {
-    print!(rt; "{name}")?;
-    telling::turn(rt, &drawings::lone_command(), held, event, 2)?;
-    println!(rt)
+fn refuse(rt: &impl Print, name: &str, held: &Left, event: &[u8]) {
+    pass_over(print!(rt; "{name}"));
+    telling::turn(rt, &drawings::lone_command(), held, event, 2);
+    pass_over(println!(rt));
 }
 
-fn busy(rt: &impl Print) -> io::Result<()> {
+fn busy(rt: &impl Print) {
     let s = start(&drawings::lone_command());
-    refuse(rt, "Busy", &Left::from(&s), &drawings::single(0, RETURN, 0))
+    refuse(rt, "Busy", &Left::from(&s), &drawings::single(0, RETURN, 0));
 }
 
 // A plan whose command has issued its word.
@@ -23,15 +23,15 @@ fn issued(image: &[u8]) -> Ran {
     play(image, 100, &mut list)
 }
 
-fn waits(rt: &impl Print, name: &str, event: &[u8]) -> io::Result<()> {
+fn waits(rt: &impl Print, name: &str, event: &[u8]) {
     let r = issued(&drawings::lone_command());
-    refuse(rt, name, &Left::from(&r), event)
+    refuse(rt, name, &Left::from(&r), event);
 }
 
-fn shape(rt: &impl Print) -> io::Result<()> {
+fn shape(rt: &impl Print) {
     let mut event = drawings::single(0, RETURN, 0);
     drawings::put16(&mut event, 4, 2);
-    waits(rt, "Shape", &event)
+    waits(rt, "Shape", &event);
 }
 
 // The next turn, with a list of its own.
@@ -41,7 +41,7 @@ fn turned(image: &[u8], r: &Ran, event: &[u8], budget: u16) -> Ran {
 }
 
 // The lone command has returned and is Finished.
-fn not_awaited(rt: &impl Print) -> io::Result<()> {
+fn not_awaited(rt: &impl Print) {
     let image = drawings::lone_command();
     let r = turned(
         &image,
@@ -54,61 +54,61 @@ fn not_awaited(rt: &impl Print) -> io::Result<()> {
         "NotAwaited",
         &Left::from(&r),
         &drawings::single(1, RETURN, 0),
-    )
+    );
 }
 
 // A run and a turn of the lone command, the list begun at this place.
-fn both(rt: &impl Print, name: &str, held: &Left, start: usize) -> io::Result<()> {
+fn both(rt: &impl Print, name: &str, held: &Left, start: usize) {
     let image = drawings::lone_command();
-    print!(rt; "{name}")?;
-    telling::run(rt, &image, held, start)?;
-    telling::turn(rt, &image, held, b"", start)?;
-    println!(rt)
+    pass_over(print!(rt; "{name}"));
+    telling::run(rt, &image, held, start);
+    telling::turn(rt, &image, held, b"", start);
+    pass_over(println!(rt));
 }
 
 // "31 is now tested after 30 and before 20": the fresh plan is Running.
-fn place(rt: &impl Print) -> io::Result<()> {
+fn place(rt: &impl Print) {
     let s = start(&drawings::lone_command());
-    both(rt, "Place", &Left::from(&s), 5)
+    both(rt, "Place", &Left::from(&s), 5);
 }
 
 // "NoRoom and Spent keep the event": state and card are those of a turn with budget 1, in which the lookup is False and the list fails.
-fn no_room_in_turn(rt: &impl Print, image: &[u8]) -> io::Result<()> {
+fn no_room_in_turn(rt: &impl Print, image: &[u8]) {
     let event = drawings::single(0, LOOKUP, 0);
     let r = issued(image);
     let one = turned(image, &r, &event, 1);
-    telling::turn_to(rt, image, &Left::from(&r), &event, 4, &Left::from(&one))
+    telling::turn_to(rt, image, &Left::from(&r), &event, 4, &Left::from(&one));
 }
 
 // "NoRoom keeps the steps already done": state and card are those of a run with budget 2.
-fn no_room(rt: &impl Print) -> io::Result<()> {
+fn no_room(rt: &impl Print) {
     let image = drawings::guarded();
     let mut list = [0; 4];
     let two = play(&image, 2, &mut list);
-    print!(rt; "NoRoom")?;
+    pass_over(print!(rt; "NoRoom"));
     telling::run_to(
         rt,
         &image,
         &Left::from(&start(&image)),
         4,
         &Left::from(&two),
-    )?;
-    no_room_in_turn(rt, &image)?;
-    println!(rt)
+    );
+    no_room_in_turn(rt, &image);
+    pass_over(println!(rt));
 }
 
-fn events(rt: &impl Print) -> io::Result<()> {
-    busy(rt)?;
-    shape(rt)?;
-    waits(rt, "Turn", &drawings::single(1, RETURN, 0))?;
-    waits(rt, "Entry", &drawings::single(0, 3, 0))?;
-    waits(rt, "Twice", &drawings::twice(0, RETURN, 0))?;
-    not_awaited(rt)
+fn events(rt: &impl Print) {
+    busy(rt);
+    shape(rt);
+    waits(rt, "Turn", &drawings::single(1, RETURN, 0));
+    waits(rt, "Entry", &drawings::single(0, 3, 0));
+    waits(rt, "Twice", &drawings::twice(0, RETURN, 0));
+    not_awaited(rt);
 }
 
-pub(crate) fn all(rt: &impl Print) -> io::Result<()> {
-    events(rt)?;
-    both(rt, "State", &held(), 2)?;
-    place(rt)?;
-    no_room(rt)
+pub(crate) fn all(rt: &impl Print) {
+    events(rt);
+    both(rt, "State", &held(), 2);
+    place(rt);
+    no_room(rt);
 }

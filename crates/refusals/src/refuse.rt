@@ -1,6 +1,6 @@
 // What each call is given to refuse: an image, and a state and a card to be kept.
+use super::pass_over;
 use plexil::{Card, State};
-use std::io;
 use telling::Left;
 
 // A state that no plan here reaches, so that a change shows. Codes and phase are numbers, since C lends `State` and `Card` of plexil.
@@ -28,10 +28,10 @@ pub(crate) fn held() -> Left {
 }
 
 // Every call on one image.
-pub(crate) fn image(rt: &impl Print, name: &str, image: &[u8]) -> io::Result<()> {
-    telling::judge(rt, name, image)?;
-    telling::fresh(rt, image, &held())?;
-    telling::run(rt, image, &held(), 2)?;
-    telling::turn(rt, image, &held(), b"", 2)?;
-    println!(rt)
+pub(crate) fn image(rt: &impl Print, name: &[u8], image: &[u8]) {
+    telling::judge(rt, name, image);
+    telling::fresh(rt, image, &held());
+    telling::run(rt, image, &held(), 2);
+    telling::turn(rt, image, &held(), b"", 2);
+    pass_over(println!(rt));
 }

@@ -1,11 +1,16 @@
 -- Laws of exits: what a call leaves by the report that is made of its reply.
+use Prim.Native.Nat.{ℕ}
 use mathlib.Core.Path.{◌≡◌, ap, ◌∙◌}
 use Rattle.plexil.specs.declared.Checked.{Checked}
 use Rattle.samblokur.specs.declared.reports.Report.{Report}
 use Rattle.samblokur.specs.declared.calls.CheckExit.{CheckExit}
 use Rattle.samblokur.specs.declared.calls.TurnExit.{TurnExit}
-use Rattle.samblokur.specs.Reports.{verdict_report}
+use Rattle.samblokur.specs.Reports.{report_of, verdict_report}
 use Rattle.samblokur.specs.Exits.{check_exit}
+
+-- a report of another answer with the same number
+pub renumbered : {m n named ending steps next : ℕ} {x : Report} → m ≡ n → x ≡ report_of m named ending steps next → x ≡ report_of n named ending steps next
+renumbered {m} {n} {named} {ending} {steps} {next} e h = h ∙ (λ t. report_of (e t) named ending steps next)
 
 pub check-exit : {x : Report} {r q : Checked} → x ≡ verdict_report r.verdict → r ≡ q → ◌≡◌ {A = CheckExit} (record { number = x.number; report = x; counts = r.counts }) (check_exit q)
 unfolding verdict_report

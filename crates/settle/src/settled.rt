@@ -17,7 +17,24 @@ pub fn settle(image: &[u8], s: &State, carry: &Carry) -> State
     next.outcome = carry.outcome;
     next.failure = carry.failure;
     next.mark = carry.mark;
-    settle_places(image, carry, &mut next.outcome, &mut next.failure);
-    settle_vars(image, s, carry, &mut next.vartags, &mut next.varbits);
+    settle_places(
+        image,
+        &carry.wrote,
+        &carry.node,
+        &carry.tied,
+        &mut next.outcome,
+        &mut next.failure,
+    );
+    settle_vars(
+        image,
+        &s.status,
+        &carry.status,
+        &carry.top,
+        &carry.tags,
+        &carry.bits,
+        &carry.tied,
+        &mut next.vartags,
+        &mut next.varbits,
+    );
     next
 }

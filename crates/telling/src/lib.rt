@@ -6,6 +6,7 @@ mod given;
 mod left;
 mod plays;
 mod words;
+mod written;
 
 pub use answers::{Ended, Judged};
 pub use given::Left;

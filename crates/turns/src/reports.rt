@@ -7,7 +7,7 @@ use plexil::{Card, Ran, State};
 
 pub fn turn(
     image: &[u8],
-    state: State,
+    mut state: State,
     card: Card,
     event: &[u8],
     budget: u16,
@@ -19,7 +19,7 @@ pub fn turn(
     if let Err(a) = turn_test(image, &state, card, event, list.len(), start) {
         return refused(a, start, state, card);
     }
-    let told = events::entered(image, state, event);
+    state = events::entered(image, state, event);
     let after = events::card_after(card);
-    run_steps(image, told, after, budget, list, start)
+    run_steps(image, &mut state, after, budget, list, start)
 }

@@ -37,40 +37,42 @@ pub(crate) fn refused(answer: RunAnswer, start: usize, state: State, card: Card)
     }
 }
 
+// The state comes lent, and is stepped where it stands: by value it would stand on the stack once more.
+// Inlined, in both of its callers: so what it keeps shares the stack of what they need before it.
+#[inline(always)]
 pub(crate) fn run_steps(
     image: &[u8],
-    state: State,
+    state: &mut State,
     card: Card,
     budget: u16,
     list: &mut [u32],
     start: usize,
 ) -> Ran
-    requires { IsAdmitted image.now × IsKept image.now state × (start ≤ length list.old) }
-    ensures { (result ≡ (has_run card (run_of image.now state budget list.old start)).ran)
-        × (list.new ≡ (has_run card (run_of image.now state budget list.old start)).list) }
+    requires { IsAdmitted image.now × IsKept image.now state.old × (start ≤ length list.old) }
+    ensures { (result ≡ (has_run card (run_of image.now state.old budget list.old start)).ran)
+        × (list.new ≡ (has_run card (run_of image.now state.old budget list.old start)).list) }
 {
-    let mut t = state;
     let mut next = start;
     for steps in 0..budget {
-        match micro::step(image, &t, &mut list[next..]) {
-            Stepped::Quiet => return ended(RunAnswer::Quiet, 1, steps, next, t, card),
-            Stepped::NoRoom => return ended(RunAnswer::NoRoom, 0, steps, next, t, card),
+        match micro::step(image, state, &mut list[next..]) {
+            Stepped::Quiet => return ended(RunAnswer::Quiet, 1, steps, next, *state, card),
+            Stepped::NoRoom => return ended(RunAnswer::NoRoom, 0, steps, next, *state, card),
             Stepped::Done(words, after) => {
-                t = after;
+                *state = after;
                 next += words as usize;
             }
         }
     }
-    if micro::is_quiet(image, &t.lent()) {
-        return ended(RunAnswer::Quiet, 1, budget, next, t, card);
+    if micro::is_quiet(image, &state.lent()) {
+        return ended(RunAnswer::Quiet, 1, budget, next, *state, card);
     }
-    ended(RunAnswer::Spent, 0, budget, next, t, card)
+    ended(RunAnswer::Spent, 0, budget, next, *state, card)
 }
 
 // run and turn test and then do run_steps: what may not change, both are public, with RunPermits and TurnPermits; between, a turn has its event enter.
 pub fn run(
     image: &[u8],
-    state: State,
+    mut state: State,
     card: Card,
     budget: u16,
     list: &mut [u32],
@@ -81,5 +83,5 @@ pub fn run(
     if let Err(a) = run_test(image, &state, card, list.len(), start) {
         return refused(a, start, state, card);
     }
-    run_steps(image, state, card, budget, list, start)
+    run_steps(image, &mut state, card, budget, list, start)
 }

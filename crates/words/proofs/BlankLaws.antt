@@ -33,6 +33,9 @@ pub record Skipped (words : List ℕ) (k left i : ℕ) : Type 0 where
   pub within : i ≤ length words
   pub rest : after_blanks k words ≡ after_blanks left (drop i words)
 
+pub skipped-start : (words : List ℕ) (k : ℕ) → Skipped words k k 0
+skipped-start words k = record { within = omega arith; rest = refl }
+
 module _ (words : List ℕ) (k left i : ℕ) (s : Skipped words k left i) where
   pub skipped-done : left ≡ 0 → (i ≤ length words) × (drop i words ≡ after_blanks k words)
   skipped-done e = (s.within, after_none (drop i words) left e ∙ sym s.rest)
@@ -52,6 +55,9 @@ module _ (words : List ℕ) (k left i : ℕ) (s : Skipped words k left i) where
 -- the first i bytes are alike, and no blanks
 pub record Common (words t : List ℕ) (i : ℕ) : Type 0 where
   pub rest : common_run words t ≡ i + common_run (drop i words) (drop i t)
+
+pub common-start : (words t : List ℕ) → Common words t 0
+common-start words t = record { rest = omega arith }
 
 no-token : (l : List ℕ) → common_run l [] ≡ 0
 unfolding common_run

@@ -1,13 +1,21 @@
 -- Runs of digits and of word bytes.
-use Rattle.std.proofs.Common.{◌≡◌, ℕ, Bool, true, false, ◌&&◌, List, [], ◌∷◌, length, sym, refl, ap, ◌∙◌, arith}
+use Rattle.std.proofs.Common.{◌≡◌, ℕ, ◌-◌, Bool, true, false, not, ◌&&◌, List, [], ◌∷◌, length, get_or, take, drop, sym, refl, ap, ◌∙◌, arith}
+use Prim.Native.Nat.{min}
+use borrow.Author.Tests.{not-true}
+use Rattle.std.proofs.lemmas.List.{drop_min}
 use Rattle.std.specs.List.{list_all}
 use Rattle.grammar.specs.Spelling.{is_letter, is_digit, is_word_byte}
 use Rattle.grammar.specs.Leads.{digits, is_number, word_bytes, is_word}
+use Rattle.words.proofs.DecimalLaws.{rest_of}
 
 pub digits-all : (t : List ℕ) → list_all is_digit t ≡ digits t
 unfolding digits
 digits-all [] = refl
 digits-all (b ∷ t) = ap (λ r. is_digit b && r) (digits-all t)
+
+-- a place past the end leaves what the end leaves
+pub digits-from : (t : List ℕ) (at from : ℕ) → from ≡ min at (length t) → digits (take (length t - from) (drop from t)) ≡ digits (drop at t)
+digits-from t at from e = ap digits (rest_of t from ∙ ap (λ j. drop j t) e ∙ drop_min at t)
 
 pub words-all : (t : List ℕ) → list_all is_word_byte t ≡ word_bytes t
 unfolding word_bytes
@@ -29,10 +37,15 @@ unfolding is_word
 word_none [] h = refl
 word_none (b ∷ t) h = absurd (omega arith)
 
+pub word-not : (t : List ℕ) {l : Bool} → l ≡ is_letter (get_or t 0 0) → not l ≡ true → false ≡ is_word t
+unfolding is_word
+word-not [] p e = refl
+word-not (b ∷ t) p e = sym (rw (sym p ∙ not-true _ e) refl)
+
 module _ (t : List ℕ) (b : ℕ) (rest : List ℕ) (s : t ≡ b ∷ rest) {l : Bool} (p : l ≡ is_letter b) where
-  pub word-not : l ≡ false → false ≡ is_word t
+  pub word-no-letter : l ≡ false → false ≡ is_word t
   unfolding is_word
-  word-not e = rw (s, sym p ∙ e) refl
+  word-no-letter e = rw (s, sym p ∙ e) refl
 
   pub word-all : l ≡ true → {r : Bool} → r ≡ word_bytes rest → r ≡ is_word t
   unfolding is_word

@@ -29,6 +29,9 @@ name-not (b ∷ t) h p e = sym (rw (sym p ∙ e) refl)
 pub record Bounded (t : List ℕ) (bound n i : ℕ) : Type 0 where
   pub rest : digits_up_to bound 0 t ≡ i + digits_up_to bound n (drop i t)
 
+pub bounded-start : (t : List ℕ) (bound : ℕ) → Bounded t bound 0 0
+bounded-start t bound = record { rest = omega arith }
+
 capped-low : (n : ℕ) → capped n ≤ 9223372036854775808 → capped n ≡ n
 capped-low n h = go (leb n 9223372036854775808) refl
   where

@@ -7,7 +7,7 @@ use crate::numbers::only_digits;
 use scan::{is_digit, run_end};
 
 // The place after at most k digits from `at` on: text and place, as the definition `some_digits` is of what is dropped, and `real_prefix` goes on from there.
-pub fn digits_end(t: &[u8], at: usize, k: usize) -> usize
+pub(crate) fn digits_end(t: &[u8], at: usize, k: usize) -> usize
     ensures { result ≡ at + some_digits k (drop at t.now) }
 {
     let end = at.saturating_add(k).min(t.len());
@@ -24,7 +24,7 @@ fn is_fraction(t: &[u8], k: usize) -> bool
     if k < t.len() {
         return false;
     }
-    only_digits(t)
+    only_digits(t, 0)
 }
 
 // Digits, '.' and digits, at most 15 in all. Beside `real_prefix`, with which it shares `digits_end`: that also counts what is no decimal yet, as "12"

@@ -1,6 +1,6 @@
 // The number that a token's digits write, and a number with its sign as 64 bits. No `parse` and no `TryFrom`: the definitions `all_digits` and
 // `value_from` answer for any bytes, and what may not change, `number_of`, `signed` and `signed_bits` promise what the definitions say.
-ghost use Rattle.std.specs.Prelude.{◌≡◌, ◌+◌, ◌-◌, ◌*◌, ◌<◌, ◌≤◌, true};
+ghost use Rattle.std.specs.Prelude.{◌≡◌, ◌+◌, ◌-◌, ◌*◌, ◌<◌, ◌≤◌, true, drop};
 ghost use Rattle.grammar.specs.Leads.{digits, is_number, value_from};
 ghost use Rattle.notation.specs.Numbers as Numbers;
 ghost use Rattle.notation.specs.Numbers.{all_digits, signed_bits};
@@ -45,10 +45,12 @@ pub fn all_digits(t: &[u8]) -> u64
     n
 }
 
-pub fn only_digits(t: &[u8]) -> bool
-    ensures { result ≡ digits t.now }
+// From `at` on there are only digits.
+pub fn only_digits(t: &[u8], at: usize) -> bool
+    ensures { result ≡ digits (drop at t.now) }
 {
-    t.iter().all(|b| is_digit(*b))
+    let from = at.min(t.len());
+    t[from..].iter().all(|b| is_digit(*b))
 }
 
 pub fn is_number(t: &[u8]) -> bool
@@ -57,7 +59,7 @@ pub fn is_number(t: &[u8]) -> bool
     if t.is_empty() {
         return false;
     }
-    only_digits(t)
+    only_digits(t, 0)
 }
 
 pub fn number_of(t: &[u8]) -> u64

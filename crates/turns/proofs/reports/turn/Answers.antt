@@ -21,10 +21,10 @@ whole c = record {
 }
 
 pub run_steps-requires : goal.run_steps-requires
-run_steps-requires c = turn-passes _ _ _ _ c.args.list.now _ c.turn_test.ensures (ap tested_of c.in_default.is) (whole (goal.at.run_steps-requires c).Start) c.entered-told.ensures
+run_steps-requires c = turn-passes _ _ _ _ c.args.list.now _ c.turn_test.ensures (ap tested_of c.in_default.is) (whole (goal.at.run_steps-requires c).Start) c.entered-state.ensures
 
 pub returns : goal.returns
-returns c = turn-goes _ _ _ _ _ _ _ c.turn_test.ensures (ap tested_of c.in_default.is) c.entered-told.ensures c.card_after-after.ensures c.run_steps.ensures.0 c.run_steps.ensures.1
+returns c = turn-goes _ _ _ _ _ _ _ c.turn_test.ensures (ap tested_of c.in_default.is) c.entered-state.ensures c.card_after-after.ensures c.run_steps.ensures.0 c.run_steps.ensures.1
 
 pub returns-in-Err : goal.returns-in-Err
 returns-in-Err c = turn-refused _ _ _ _ _ _ _ c.turn_test.ensures _ (ap tested_of c.in-Err.is) c.refused.ensures

@@ -3,4 +3,4 @@ use Rattle.turns.proofs.RunLaws.{Going}
 use Rattle.turns.proofs.runs.run_steps.Given as goal
 
 abbrev pub invariant-loop-steps : goal.invariant-loop-steps
-invariant-loop-steps l = Going l.image l.initial.t l.budget l.initial.list l.start l.steps l.t l.list l.next
+invariant-loop-steps l = Going l.image l.initial.state l.budget l.initial.list l.start l.steps l.state l.list l.next
