@@ -4,7 +4,7 @@
  * Four calls over memory that the host lends. The library keeps no memory of
  * its own, allocates nothing, and keeps no pointer after a call returns. Link
  * with libsamblokur.a; it needs nothing but the C library. No function of it
- * calls itself, and no call takes more than 29656 bytes of stack, its return
+ * calls itself, and no call takes more than 28760 bytes of stack, its return
  * address included; memcpy and memset of the C library count as 256 each.
  *
  * Lent memory: every pointer is non-null, aligned for its type, and the parts

@@ -24,10 +24,10 @@ pub fn step(image: &[u8], s: &State, part: &mut [u32]) -> Stepped
     ensures { (result ≡ stepped_of image.now s.now part.old) × (part.new ≡ part_after image.now s.now part.old) }
 {
     let before = s.lent();
-    let tests = test_children(image, before.seen.status);
-    let n = image::node_count(image);
     let mut carry = Carry::nothing(s);
     let mut sent = [0u8; 256];
+    let tests = test_children(image, before.seen.status);
+    let n = image::node_count(image);
     if !walk(image, &before, n, &tests, &mut carry, &mut sent) {
         return Stepped::Quiet;
     }
