@@ -102,6 +102,11 @@ unfolding pending_turns
 push-turns pending n left w h =
     rw (get_or-set_same pending n w Not h) (ap (λ (k : ℕ). turns_to_end left w + k) (turns-alike n (set pending n w) pending (suc left) (alike-set pending n w)))
 
+pub some-turns : (left : ℕ) → 0 < turns_of left
+unfolding turns_of
+some-turns zero = omega arith
+some-turns (suc left) = omega arith
+
 pub end-turns : (left : ℕ) (w : Pending) → (0 < turns_to_end left w) × (turns_to_end left w ≤ turns_of left + 2)
 unfolding turns_to_end
 end-turns left Not = (omega arith, omega arith)

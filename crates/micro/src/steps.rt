@@ -24,6 +24,7 @@ pub fn step(image: &[u8], s: &State, part: &mut [u32]) -> Stepped
     ensures { (result ≡ stepped_of image.now s.now part.old) × (part.new ≡ part_after image.now s.now part.old) }
 {
     let before = s.lent();
+    // Before the children's tests, so that what is carried is laid where it stays, and not copied there.
     let mut carry = Carry::nothing(s);
     let mut sent = [0u8; 256];
     let tests = test_children(image, before.seen.status);
