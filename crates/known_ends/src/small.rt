@@ -1,23 +1,23 @@
 // The unmarked small plans: the smallest image, the limits of nodes and depth, a budget of 0.
 use super::pass_over;
-use telling::{Ended, check};
+use telling::{Ended, show_check};
 
 // "44 bytes hold the smallest plan; 19 bytes are Short"
 fn bytes(rt: &impl Print) {
-    check(rt, b"44 bytes", &drawings::childless());
-    check(rt, b"19 bytes", &[0; 19]);
+    show_check(rt, b"44 bytes", &drawings::childless());
+    show_check(rt, b"19 bytes", &[0; 19]);
 }
 
 // "256 nodes pass, 257 are Count"
 fn nodes(rt: &impl Print) {
-    check(rt, b"256 nodes", &drawings::nodes_256());
-    check(rt, b"257 nodes", &drawings::nodes_257());
+    show_check(rt, b"256 nodes", &drawings::nodes_256());
+    show_check(rt, b"257 nodes", &drawings::nodes_257());
 }
 
 // "Depth 12 passes, 13 is Deep"
 fn depth(rt: &impl Print) {
-    check(rt, b"depth 12", &drawings::depth_12());
-    check(rt, b"depth 13", &drawings::depth_13());
+    show_check(rt, b"depth 12", &drawings::depth_12());
+    show_check(rt, b"depth 13", &drawings::depth_13());
 }
 
 // "Budget 0 on a fresh plan K4: Spent, 0"

@@ -8,7 +8,7 @@ use telling::{Left, after, play, start};
 // A turn of the lone command.
 fn refuse(rt: &impl Print, name: &str, held: &Left, event: &[u8]) {
     pass_over(print!(rt; "{name}"));
-    telling::turn(rt, &drawings::lone_command(), held, event, 2);
+    telling::show_turn(rt, &drawings::lone_command(), held, event, 2);
     pass_over(println!(rt));
 }
 
@@ -61,8 +61,8 @@ fn not_awaited(rt: &impl Print) {
 fn both(rt: &impl Print, name: &str, held: &Left, start: usize) {
     let image = drawings::lone_command();
     pass_over(print!(rt; "{name}"));
-    telling::run(rt, &image, held, start);
-    telling::turn(rt, &image, held, b"", start);
+    telling::show_run(rt, &image, held, start);
+    telling::show_turn(rt, &image, held, b"", start);
     pass_over(println!(rt));
 }
 
@@ -77,7 +77,7 @@ fn no_room_in_turn(rt: &impl Print, image: &[u8]) {
     let event = drawings::single(0, LOOKUP, 0);
     let r = issued(image);
     let one = turned(image, &r, &event, 1);
-    telling::turn_to(rt, image, &Left::from(&r), &event, 4, &Left::from(&one));
+    telling::show_turn_to(rt, image, &Left::from(&r), &event, 4, &Left::from(&one));
 }
 
 // "NoRoom keeps the steps already done": state and card are those of a run with budget 2.
@@ -86,7 +86,7 @@ fn no_room(rt: &impl Print) {
     let mut list = [0; 4];
     let two = play(&image, 2, &mut list);
     pass_over(print!(rt; "NoRoom"));
-    telling::run_to(
+    telling::show_run_to(
         rt,
         &image,
         &Left::from(&start(&image)),

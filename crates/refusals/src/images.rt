@@ -30,7 +30,7 @@ fn records(rt: &impl Print) {
 }
 
 pub(crate) fn all(rt: &impl Print) {
-    telling::check(rt, b"unchanged", &drawings::counting_looking(0));
+    telling::show_check(rt, b"unchanged", &drawings::counting_looking(0));
     refuse::image(rt, b"Short", &[1; 19]);
     header(rt);
     records(rt);

@@ -29,9 +29,9 @@ pub(crate) fn held() -> Left {
 
 // Every call on one image.
 pub(crate) fn image(rt: &impl Print, name: &[u8], image: &[u8]) {
-    telling::judge(rt, name, image);
-    telling::fresh(rt, image, &held());
-    telling::run(rt, image, &held(), 2);
-    telling::turn(rt, image, &held(), b"", 2);
+    telling::show_judge(rt, name, image);
+    telling::show_fresh(rt, image, &held());
+    telling::show_run(rt, image, &held(), 2);
+    telling::show_turn(rt, image, &held(), b"", 2);
     pass_over(println!(rt));
 }

@@ -1,7 +1,7 @@
 // What the cases share: a plan started fresh and run, a plan checked, and the next turn.
 use super::answers::Judged;
-use super::written::pass_over;
 use plexil::{Card, Ran, Started, State};
+use std::io;
 
 // A state to hand to a fresh start. `marked` of refusals is another in each of its eight parts, so that a function of both would take all eight.
 fn blank() -> State {
@@ -32,16 +32,14 @@ pub fn play(image: &[u8], budget: u16, list: &mut [u32]) -> Ran {
     turns::run(image, started.state, started.card, budget, list, 0)
 }
 
-// The verdict on an image. A name is any bytes, so it is no part of the format.
-pub fn judge(rt: &impl Print, name: &[u8], image: &[u8]) {
-    let c = admit::check(image);
-    pass_over(rt.write_all(name));
-    pass_over(print!(rt; "{}", Judged(c.verdict)));
+// The verdict on an image. What cannot be written is answered.
+pub fn judge(rt: &impl Print, name: &str, image: &[u8]) -> io::Result<()> {
+    print!(rt; "{name}{}", Judged(admit::check(image).verdict))
 }
 
-pub fn check(rt: &impl Print, name: &[u8], image: &[u8]) {
-    judge(rt, name, image);
-    pass_over(println!(rt));
+pub fn check(rt: &impl Print, name: &str, image: &[u8]) -> io::Result<()> {
+    judge(rt, name, image)?;
+    println!(rt)
 }
 
 // The next turn: an event, with this budget from the list's first place.
