@@ -1,4 +1,4 @@
-// Each call on a state and a card: its answer, and whether state, card and list are kept. What cannot be written is answered, and nothing comes after it.
+// Each call on a state and a card: its answer, and whether state, card and list are kept. An error of writing is answered, and nothing is written after it.
 // A run and a turn stay two functions: they share `told`, and one of both would take an event that a run has not.
 use super::answers::{Ended, Judged};
 use super::given::Left;

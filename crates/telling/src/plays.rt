@@ -32,7 +32,7 @@ pub fn play(image: &[u8], budget: u16, list: &mut [u32]) -> Ran {
     turns::run(image, started.state, started.card, budget, list, 0)
 }
 
-// The verdict on an image. What cannot be written is answered.
+// The verdict on an image. An error of writing is answered.
 pub fn judge(rt: &impl Print, name: &str, image: &[u8]) -> io::Result<()> {
     print!(rt; "{name}{}", Judged(admit::check(image).verdict))
 }

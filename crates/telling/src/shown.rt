@@ -1,5 +1,5 @@
-// What `left` and `plays` tell, shown by a program that goes on where it cannot write: an error of writing is passed over, and what comes after it is written.
-// Written out, and not over those of `left`: so no answer is carried up that nobody hears, and a run and a turn go on past their first word.
+// The calls of `left` and the verdicts of `plays`, for a program that goes on where it cannot write: an error of writing is passed over, and what comes after it is written.
+// They do not call those: no answer is carried up that nobody hears, and a call goes on past a piece that failed.
 use super::answers::{Ended, Judged};
 use super::given::Left;
 use super::words::kept;

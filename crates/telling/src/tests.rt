@@ -1,4 +1,4 @@
-// What each call writes, and that it answers an error of writing and writes nothing after it: on a page on which one piece of writing fails.
+// What each call writes, and that it answers an error of writing and writes nothing after it.
 use super::{Left, after, check, fresh, judge, play, run, run_to, start, turn, turn_to};
 use plexil::Ran;
 use std::cell::{Cell, RefCell};
@@ -7,7 +7,7 @@ use std::io;
 use std::process::Abort;
 use std::test::Fail;
 
-// So many pieces are written before the one that fails, and all that come after it.
+// A page on which one piece of writing fails, after so many, or none does. Those after it are written.
 #[derive(Drop)]
 struct Page {
     before: Cell<Option<u8>>,
@@ -57,10 +57,7 @@ const SMALLEST: [u8; 44] = [
     255, 255, 255, 255, 255, 255, 255, 255, 255, 255, 255, 255, 255, 255, 255, 255, 255,
 ];
 
-// An event without an entry, of serial 0.
-const NOTHING: [u8; 8] = [0; 8];
-
-// The same with a command in place of the list.
+// The same with command 7 in place of the list.
 fn command() -> [u8; 44] {
     let mut image = SMALLEST;
     image[22] = 1;
@@ -68,6 +65,9 @@ fn command() -> [u8; 44] {
     image[41] = 0;
     image
 }
+
+// An event without an entry, of serial 0.
+const NOTHING: [u8; 8] = [0; 8];
 
 fn begun() -> Left {
     Left::from(&start(&SMALLEST))
@@ -97,7 +97,7 @@ fn verdicts_and_starts_are_told(rt: HostRuntime) -> Result<(), Fail> {
     Ok(())
 }
 
-// A start past the list's end is Place, 31. A lone command issues one word in its first step.
+// "Childless list": 4 steps. "Lone command": one step, and a word. A start past the list's end is Place, 31.
 #[test]
 fn runs_are_told(rt: HostRuntime) -> Result<(), Fail> {
     let page = Page::of(&rt, None);
@@ -114,7 +114,7 @@ fn runs_are_told(rt: HostRuntime) -> Result<(), Fail> {
     Ok(())
 }
 
-// An event of no bytes is Shape, 21.
+// A plan that has ended takes no step. An event of no bytes is Shape, 21, a start past the list's end Place.
 #[test]
 fn turns_are_told(rt: HostRuntime) -> Result<(), Fail> {
     let page = Page::of(&rt, None);
